@@ -1,6 +1,6 @@
 -- Why connections were closed, and what those wait for that were not: on the page.
-use Rattle.std.specs.Prelude.{⊤, AllZip, ◌==◌, ◌||◌, IfSome, slice_get}
-use Rattle.std.specs.List.{list_any}
+use Rattle.std.specs.Prelude.{⊤, ◌==◌, ◌||◌, IfSome, slice_get}
+use Rattle.std.specs.List.{AllZip, list_any}
 use Rattle.std.proofs.Common.{◌≡◌, ◌≤◌, ◌<◌, ◌-◌, ◌+◌, ◌⊎◌, inl, inr, ℕ, zero, suc, Bool, true, false, List, [], ◌∷◌, ◌++◌, length, take, drop, Option, Some, None, refl, sym, ap, subst, ◌∙◌, arith}
 use Rattle.std.proofs.lemmas.Bool.{eq-eqb}
 use Rattle.partition_model.specs.declared.options.Options.{Options}

@@ -1,7 +1,8 @@
 -- One share: the marks of what its front answered, and what its story says on the page.
-use Rattle.std.specs.Prelude.{⊤, AllZip, ◌==◌, is_some, IfSome, filter_map, flat_map, AllPairs, slice_get}
-use Rattle.std.specs.List.{AllByRecursion, cons_option}
-use Rattle.std.proofs.Common.{◌≡◌, ◌≤◌, ◌<◌, ◌+◌, ◌-◌, ◌⊎◌, inl, inr, ℕ, zero, suc, Bool, true, false, List, [], ◌∷◌, ◌++◌, length, map, filter, take, drop, Option, Some, None, refl, sym, ap, subst, ◌∙◌, append_assoc, arith, length-append, length-map}
+use Rattle.std.specs.Prelude.{⊤, ◌==◌, is_some, IfSome, filter_map, flat_map, AllPairs, slice_get}
+use Rattle.std.specs.List.{AllZip, AllByRecursion, cons_option}
+use Rattle.std.proofs.Common.{◌≡◌, ◌≤◌, ◌<◌, ◌+◌, ◌-◌, ◌⊎◌, inl, inr, ℕ, zero, suc, Bool, true, false, List, [], ◌∷◌, ◌++◌, length, map, filter, take, drop, Option, Some, None, refl, sym, ap, subst, ◌∙◌, append_assoc, arith, length-append}
+use Rattle.std.proofs.lemmas.List.{length-map}
 use Rattle.partition_model.specs.declared.options.Options.{Options}
 use Rattle.connections.specs.Connection.{Connection}
 use Rattle.connections.specs.State.{Entry, closed, state_after}
@@ -24,8 +25,7 @@ use Rattle.client_stories.proofs.Marks.{Mark, given_mark, swept_mark, for_client
 use Rattle.client_stories.proofs.Fits.{IsFound}
 use Rattle.connection_loop.specs.Talk.{Talk}
 use Rattle.client_stories.proofs.Talks.{OnPage}
-use Rattle.client_stories.proofs.Pieces.{IsMark}
-use Rattle.client_stories.proofs.Parts.{IsAskedDeed}
+use Rattle.client_stories.proofs.Pieces.{IsMark, IsAskedDeed}
 use Rattle.client_stories.proofs.Moments.{first_at, talks_at, rises_at, caused_at, since_at, talk_in, none_yet, same_timed}
 use Rattle.client_stories.proofs.Shares.{woven, pairs, IsDone, At, at, page_at, take_first, drop_first}
 use Rattle.command_answers.proofs.AskLaws.{all_append}
@@ -116,7 +116,7 @@ module _ (options : Options) (base most in_all lacked : ℕ) (some : 1 ≤ optio
     all_long : story.reached (length log.entries) ≡ length asked
     all_long =
         ap (λ k. length (at_end k)) (let none : length log.entries - length log.entries ≡ 0 = omega arith in none)
-        ∙ ap length (sym own_pairs) ∙ length-map paired (λ z. z.0) ∙ zip_long paired asked asked_zip
+        ∙ ap length (sym own_pairs) ∙ length-map paired (λ z. z.0) ∙ zip_long (λ z done. IsAskedDeed options base (given_mark z) done) paired asked asked_zip
 
     pub clients : TalksThrough options.partitions log story
     clients = record {
@@ -192,7 +192,7 @@ module _ (options : Options) (base most in_all lacked : ℕ) (some : 1 ≤ optio
         d = zip_parted (λ z done. IsAskedDeed options base (given_mark z) done) p.first p.later now.first (subst (λ l. AllZip (λ z done. IsAskedDeed options base (given_mark z) done) l now.first) p.whole now.zip_first)
 
         many : length (at_end (suc k)) ≡ length d.first
-        many = ap length (sym p.firsts) ∙ length-map p.first (λ z. z.0) ∙ zip_long p.first d.first d.firsts
+        many = ap length (sym p.firsts) ∙ length-map p.first (λ z. z.0) ∙ zip_long (λ z done. IsAskedDeed options base (given_mark z) done) p.first d.first d.firsts
 
     at_second : (s : ℕ) (list : List (Given × Purpose)) (dones : List Done) → AllZip (λ z done. IsAskedDeed options base (given_mark z) done) list dones
         → AreAt options s (answers_in (map (λ z. z.0) list)) → AllByRecursion (λ (done : Done). IfSome (second_of done.deed) (λ x. x ≡ s)) dones
@@ -225,7 +225,7 @@ module _ (options : Options) (base most in_all lacked : ℕ) (some : 1 ≤ optio
         let b = between k (omega (arith, le)) in
         let next : suc k ≡ length log.entries - n = omega (arith, le) in
         let none : b.since.0 ≡ [] = b.since.2.timed (sym (same_timed (drop k log.entries)) ∙ off) in
-        let few : length b.deeds_later ≡ 0 = sym (zip_long b.own_pairs_later b.deeds_later b.zip_later) ∙ sym (length-map b.own_pairs_later (λ z. z.0)) ∙ ap length (b.given_later ∙ none) in
+        let few : length b.deeds_later ≡ 0 = sym (zip_long (λ z done. IsAskedDeed options base (given_mark z) done) b.own_pairs_later b.deeds_later b.zip_later) ∙ sym (length-map b.own_pairs_later (λ z. z.0)) ∙ ap length (b.given_later ∙ none) in
         ap (λ j. drop (length (at_end j)) (take (length (at_end k)) asked)) (sym next) ∙ b.done_is ∙ none_of b.deeds_later few
 
     module _ {A : Type 0} (of : A → List Done) (mark_of : A → Mark) where

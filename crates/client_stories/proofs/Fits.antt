@@ -1,6 +1,6 @@
 -- Each answer to a client is one to what it was given for.
-use Rattle.std.specs.Prelude.{⊤, AllZip, ◌&&◌, if◌then◌else◌}
-use Rattle.std.specs.List.{AllByRecursion}
+use Rattle.std.specs.Prelude.{⊤, ◌&&◌, if◌then◌else◌}
+use Rattle.std.specs.List.{AllZip, AllByRecursion}
 use Rattle.std.proofs.Common.{◌≡◌, ◌≤◌, ℕ, suc, Bool, true, false, cond, List, [], ◌∷◌, ◌++◌, length, map, drop, refl, sym, ap, subst, ◌∙◌, arith}
 use Rattle.partition_model.specs.declared.options.Options.{Options}
 use Rattle.memcached_commands.specs.declared.asks.Asked.{Asked}
@@ -63,7 +63,7 @@ module _ (options : Options) (base : ℕ) where
   found_all : (bytes : List ℕ) (said : List Exchange) (rest : List ℕ) → Spells options base bytes said rest → AllByRecursion (λ next. AllByRecursion IsFit (asks_in next)) (map (λ e. e.next) said)
       → AllZip IsFound (answers_to_all said) (purposes_of said)
   found_all bytes [] rest spells fit = tt
-  found_all bytes (e ∷ said) rest spells fit = zip_append e.answers (answers_to_all said) (purposes_by (is_flush_all e.next) (style_of e.next) (asks_in e.next) e.answers) (purposes_of said)
+  found_all bytes (e ∷ said) rest spells fit = zip_append IsFound e.answers (answers_to_all said) (purposes_by (is_flush_all e.next) (style_of e.next) (asks_in e.next) e.answers) (purposes_of said)
       (found_by (is_flush_all e.next) e.next e.answers fit.0 spells.0.answers) (found_all (drop (len_of e.next) bytes) said rest spells.2 fit.1)
 
   pub found : (bytes : List ℕ) (said : List Exchange) (rest : List ℕ) → AsksFit bytes → Spells options base bytes said rest → AllZip IsFound (answers_to_all said) (purposes_of said)

@@ -56,7 +56,6 @@ use Rattle.memcached_requests.specs.MetaRequests.{of_meta}
 use Rattle.memcached_requests.specs.Requests.{IsFitRequest, IsFitNext, asks_in, len_of}
 use Rattle.memcached_requests.specs.Next.{is_frame, of_text, next_of}
 use Rattle.memcached_requests.proofs.NextLaws.{as_frame, as_text}
-use Rattle.memcached_requests.specs.declared.frame.TheConstants.{MAKES_NONE}
 use Rattle.memcached_requests.specs.declared.request.Request.TheVariants.{Keys, Flush, Stats, Said}
 use Rattle.memcached_requests.specs.declared.request.Next.TheVariants.{Whole, More}
 use Rattle.memcached_text.specs.declared.command.Direction.{Direction}
@@ -212,7 +211,7 @@ module _ (frame : Frame) (fit : frames.IsFitFrame MAX_TEXT_LEN frame) (bytes : O
   )
 
   initial_fits : IsFitInitial (initial_of frame.extras)
-  initial_fits = by (from_be_bytes w32 (drop 16 frame.extras) == MAKES_NONE)
+  initial_fits = by (from_be_bytes w32 (drop 16 frame.extras) == 4294967295)
     where
       by : (b : Bool) → IsFitInitial (cond b None (Some (record { number = from_be_bytes w64 (drop 8 frame.extras); lifetime = lifetime_at (from_be_bytes w32 (drop 16 frame.extras)) })))
       by true = tt

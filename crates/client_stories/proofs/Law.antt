@@ -1,6 +1,6 @@
 -- All shares of a store, on the page.
-use Rattle.std.specs.Prelude.{⊤, AllZip, ◌==◌, is_some, IfSome, slice_get, count_by, min, flat_map}
-use Rattle.std.specs.List.{AllByRecursion}
+use Rattle.std.specs.Prelude.{⊤, ◌==◌, is_some, IfSome, slice_get, count_by, min, flat_map}
+use Rattle.std.specs.List.{AllZip, AllByRecursion}
 use Rattle.std.proofs.Common.{◌≡◌, ◌≤◌, ◌<◌, ◌+◌, ◌-◌, ◌^◌, ◌⊎◌, inl, inr, ℕ, zero, suc, Bool, true, false, List, [], ◌∷◌, ◌++◌, length, map, filter, Option, Some, None, refl, sym, ap, subst, ◌∙◌, arith}
 use Rattle.std.proofs.lemmas.Option.{same_Some, slice_get_within}
 use Rattle.list_laws.proofs.Places.{element_at}
@@ -23,7 +23,7 @@ use Rattle.part_courses.specs.Courses.{Served, AreServed}
 use Rattle.part_courses.proofs.Courses.{courses}
 use Rattle.client_stories.specs.Stories.{Talked, ServesClientsOfStore}
 use Rattle.client_stories.proofs.Marks.{Mark, for_client, Marked}
-use Rattle.client_stories.proofs.Pieces.{part, IsMark}
+use Rattle.client_stories.proofs.Pieces.{part, IsMark, IsAskedDeed}
 use Rattle.client_stories.proofs.Facts as share
 use Rattle.client_stories.proofs.Parts as parts
 
@@ -102,7 +102,7 @@ module _ (options : Options) (base most in_all lacked : ℕ) (fronts : List (Lis
     pub few : min (length s.lacking) LAST_COUNT ≤ lacked
 
   abbrev Zip : ℕ → List Mark → Type 0
-  Zip f list = AllZip (parts.IsAskedDeed options base) (filter for_client list) (filter (λ (done : Done). is_some done.client) (deeds f))
+  Zip f list = AllZip (IsAskedDeed options base) (filter for_client list) (filter (λ (done : Done). is_some done.client) (deeds f))
 
   facts_by : (f : ℕ) (o : Option (List Answered)) (is : slice_get fronts f ≡ o) → f < length fronts → Zip f (marks_by f o is) → marks f ≡ marks_by f o is → Facts f (story_by f o is)
   facts_by f None is low zip same = absurd (let own = element_at fronts f low in let no : None ≡ Some own.0 = sym is ∙ own.1 in cc)

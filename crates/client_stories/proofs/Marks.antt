@@ -74,21 +74,7 @@ module _ (P : Mark → Type 0) where
   pub mark : (turns : List Turn) (pairs : List (Given × Purpose)) → map (λ z. z.0) pairs ≡ given_in turns → AllByRecursion (λ z. P (given_mark z)) pairs
       → AllByRecursion (λ turn. AllByRecursion (λ a. P (swept_mark a)) turn.swept) turns → Marked turns pairs
   mark [] pairs is all swept = record { marks = []; answered = refl; given = ap (map given_mark) (sym (none_paired pairs is)); each = tt }
-  mark (turn ∷ earlier) pairs is all swept = record {
-    marks = before.marks ++ map given_mark p.later ++ map swept_mark turn.swept;
-    answered =
-        map-append (λ (m : Mark). m.answered) before.marks (map given_mark p.later ++ map swept_mark turn.swept)
-        ∙ ap (λ l. map (λ (m : Mark). m.answered) before.marks ++ l) (map-append (λ (m : Mark). m.answered) (map given_mark p.later) (map swept_mark turn.swept))
-        ∙ (λ i. before.answered i ++ (given_answers p.later ∙ ap answers_in p.laters) i ++ swept_answers turn.swept i);
-    given =
-        filter-append for_client before.marks (map given_mark p.later ++ map swept_mark turn.swept)
-        ∙ ap (λ l. filter for_client before.marks ++ l) (filter-append for_client (map given_mark p.later) (map swept_mark turn.swept))
-        ∙ (λ i. before.given i ++ all_given p.later i ++ none_swept turn.swept i)
-        ∙ ap (λ l. map given_mark p.first ++ l) (append-nil (map given_mark p.later))
-        ∙ sym (ap (map given_mark) p.whole ∙ map-append given_mark p.first p.later);
-    each = all_append P before.marks (map given_mark p.later ++ map swept_mark turn.swept) before.each
-        (all_append P (map given_mark p.later) (map swept_mark turn.swept) (given_all p.later both.1) (swept_all turn.swept swept.0));
-  }
+  mark (turn ∷ earlier) pairs is all swept = more (mark earlier p.first p.firsts both.0 swept.1)
     where
       p : Parted (λ (z : Given × Purpose). z.0) pairs (given_in earlier) turn.given
       p = parted (λ (z : Given × Purpose). z.0) pairs (given_in earlier) turn.given is
@@ -96,5 +82,20 @@ module _ (P : Mark → Type 0) where
       both : AllByRecursion (λ z. P (given_mark z)) p.first × AllByRecursion (λ z. P (given_mark z)) p.later
       both = all_parted (λ z. P (given_mark z)) p.first p.later (subst (AllByRecursion (λ z. P (given_mark z))) p.whole all)
 
-      before : Marked earlier p.first
-      before = mark earlier p.first p.firsts both.0 swept.1
+      more : Marked earlier p.first → Marked (turn ∷ earlier) pairs
+      more before = record {
+        marks = before.marks ++ (map given_mark p.later ++ map swept_mark turn.swept);
+        answered =
+            map-append (λ (m : Mark). m.answered) before.marks (map given_mark p.later ++ map swept_mark turn.swept)
+            ∙ ap (λ l. map (λ (m : Mark). m.answered) before.marks ++ l) (map-append (λ (m : Mark). m.answered) (map given_mark p.later) (map swept_mark turn.swept))
+            ∙ (λ i. before.answered i ++ ((given_answers p.later ∙ ap answers_in p.laters) i ++ swept_answers turn.swept i))
+            ∙ sym (append_assoc (answered_in earlier) (answers_in turn.given) turn.swept);
+        given =
+            filter-append for_client before.marks (map given_mark p.later ++ map swept_mark turn.swept)
+            ∙ ap (λ l. filter for_client before.marks ++ l) (filter-append for_client (map given_mark p.later) (map swept_mark turn.swept))
+            ∙ (λ i. before.given i ++ (all_given p.later i ++ none_swept turn.swept i))
+            ∙ ap (λ l. map given_mark p.first ++ l) (append-nil (map given_mark p.later))
+            ∙ sym (ap (map given_mark) p.whole ∙ map-append given_mark p.first p.later);
+        each = all_append P before.marks (map given_mark p.later ++ map swept_mark turn.swept) before.each
+            (all_append P (map given_mark p.later) (map swept_mark turn.swept) (given_all p.later both.1) (swept_all turn.swept swept.0));
+      }

@@ -1,6 +1,6 @@
 -- The course of each part, and the deeds of each share: the same deeds, by part and by share.
-use Rattle.std.specs.Prelude.{⊤, AllZip, ◌==◌, is_some, flat_map, slice_get}
-use Rattle.std.specs.List.{AllByRecursion, filter_map, cons_option}
+use Rattle.std.specs.Prelude.{⊤, ◌==◌, is_some, flat_map, slice_get}
+use Rattle.std.specs.List.{AllZip, AllByRecursion, filter_map, cons_option}
 use Rattle.std.proofs.Common.{◌≡◌, ◌≢◌, ◌≤◌, ◌<◌, ◌+◌, ℕ, Bool, true, false, cond, ltb, List, [], ◌∷◌, ◌++◌, length, map, filter, Option, Some, None, inl, inr, refl, sym, ap, subst, ◌∙◌, append_assoc, arith}
 use Rattle.std.proofs.lemmas.Bool.{eqb-true, ne_eqb, ltb-true, ltb-false}
 use Rattle.std.proofs.lemmas.List.Elements.{filter-append}
@@ -19,23 +19,23 @@ use Rattle.part_courses.specs.Courses.{Served, IsFor, AreServed, deeds_of, done_
 use Rattle.client_stories.proofs.Weave.{zip_of_maps, zip_and, all_filter, Woven, weave}
 use Rattle.client_stories.proofs.Marks.{Mark, for_client}
 use Rattle.client_stories.proofs.Talks.{IsDeedOf}
-use Rattle.client_stories.proofs.Pieces.{part, IsMark, served, IsOwnDeed, AskedIn, IsPiece, piece}
+use Rattle.client_stories.proofs.Pieces.{part, IsMark, served, IsOwnDeed, IsAskedDeed, AskedIn, IsPiece, piece}
 
 -- Lists
 
 pub filter_mapped : {X Y : Type 0} (q : Y → Bool) (f : X → Y) (xs : List X) → filter q (map f xs) ≡ map f (filter (λ x. q (f x)) xs)
 filter_mapped q f [] = refl
-filter_mapped q f (x ∷ xs) = by (q (f x))
+filter_mapped q f (x ∷ xs) = by (q (f x)) (filter_mapped q f xs)
   where
-    by : (b : Bool) → cond b (f x ∷ filter q (map f xs)) (filter q (map f xs)) ≡ map f (cond b (x ∷ filter (λ x. q (f x)) xs) (filter (λ x. q (f x)) xs))
-    by true = ap (λ l. f x ∷ l) (filter_mapped q f xs)
-    by false = filter_mapped q f xs
+    by : (b : Bool) → filter q (map f xs) ≡ map f (filter (λ x. q (f x)) xs) → cond b (f x ∷ filter q (map f xs)) (filter q (map f xs)) ≡ map f (cond b (x ∷ filter (λ x. q (f x)) xs) (filter (λ x. q (f x)) xs))
+    by true rest = ap (λ l. f x ∷ l) rest
+    by false rest = rest
 
 -- each passes the test as its own group does
 filter_group : {X : Type 0} (test : X → Bool) (mine : Bool) (xs : List X) → AllByRecursion (λ x. test x ≡ mine) xs → filter test xs ≡ cond mine xs []
 filter_group test mine [] all = by mine
   where
-    by : (b : Bool) → [] ≡ cond b [] []
+    by : (b : Bool) → filter test [] ≡ cond b [] []
     by true = refl
     by false = refl
 filter_group test mine (x ∷ xs) all = (λ i. cond (all.0 i) (x ∷ filter_group test mine xs all.1 i) (filter_group test mine xs all.1 i)) ∙ by mine
@@ -66,28 +66,28 @@ all_map (x ∷ xs) all f = (f x all.0, all_map xs all.1 f)
 
 passed : {X : Type 0} (test : X → Bool) (xs : List X) → AllByRecursion (λ x. test x ≡ true) (filter test xs)
 passed test [] = tt
-passed test (x ∷ xs) = by (test x) refl
+passed test (x ∷ xs) = by (test x) refl (passed test xs)
   where
-    by : (b : Bool) → test x ≡ b → AllByRecursion (λ x. test x ≡ true) (cond b (x ∷ filter test xs) (filter test xs))
-    by true is = (is, passed test xs)
-    by false is = passed test xs
+    by : (b : Bool) → test x ≡ b → AllByRecursion (λ x. test x ≡ true) (filter test xs) → AllByRecursion (λ x. test x ≡ true) (cond b (x ∷ filter test xs) (filter test xs))
+    by true is rest = (is, rest)
+    by false is rest = rest
 
 none_passed : {X : Type 0} (test : X → Bool) (xs : List X) → AllByRecursion (λ x. test x ≡ false) xs → filter test xs ≡ []
 none_passed test [] all = refl
 none_passed test (x ∷ xs) all = ap (λ b. cond b (x ∷ filter test xs) (filter test xs)) all.0 ∙ none_passed test xs all.1
 
-all_both : {X : Type 0} {P Q : X → Type 0} (xs : List X) → AllByRecursion P xs → AllByRecursion Q xs → AllByRecursion (λ x. P x × Q x) xs
-all_both [] ps qs = tt
-all_both (x ∷ xs) ps qs = ((ps.0, qs.0), all_both xs ps.1 qs.1)
+all_both : {X : Type 0} (P Q : X → Type 0) (xs : List X) → AllByRecursion P xs → AllByRecursion Q xs → AllByRecursion (λ x. P x × Q x) xs
+all_both P Q [] ps qs = tt
+all_both P Q (x ∷ xs) ps qs = ((ps.0, qs.0), all_both P Q xs ps.1 qs.1)
 
 -- what a front was answered, in a part's order
 to_front : (f : ℕ) (turns : List Turn) → answers_to f turns ≡ map (λ t. t.answered) (filter (λ t. t.front == f) turns)
 to_front f [] = refl
-to_front f (t ∷ turns) = by (t.front == f)
+to_front f (t ∷ turns) = by (t.front == f) (to_front f turns)
   where
-    by : (b : Bool) → cons_option (cond b (Some t.answered) None) (answers_to f turns) ≡ map (λ t. t.answered) (cond b (t ∷ filter (λ t. t.front == f) turns) (filter (λ t. t.front == f) turns))
-    by true = ap (λ l. t.answered ∷ l) (to_front f turns)
-    by false = to_front f turns
+    by : (b : Bool) → answers_to f turns ≡ map (λ t. t.answered) (filter (λ t. t.front == f) turns) → cons_option (cond b (Some t.answered) None) (answers_to f turns) ≡ map (λ t. t.answered) (cond b (t ∷ filter (λ t. t.front == f) turns) (filter (λ t. t.front == f) turns))
+    by true rest = ap (λ l. t.answered ∷ l) rest
+    by false rest = rest
 
 -- an answer with its mark, and what it came to
 pub record Piece : Type 0 where
@@ -100,14 +100,14 @@ module _ (options : Options) (base : ℕ) (some : 1 ≤ options.partitions) (fro
     (beyond : (f : ℕ) → length fronts ≤ f → marks f ≡ []) (each : (f : ℕ) → AllByRecursion (IsMark options base) (marks f)) where
   none_beyond : (p : ℕ) → options.partitions ≤ p → (answers : List Answered) → answers_of options p answers ≡ []
   none_beyond p high [] = refl
-  none_beyond p high (a ∷ answers) = by (partition_in options a == p) refl
+  none_beyond p high (a ∷ answers) = by (partition_in options a == p) refl (none_beyond p high answers)
     where
-      by : (b : Bool) → (partition_in options a == p) ≡ b → cond b (a ∷ answers_of options p answers) (answers_of options p answers) ≡ []
-      by true same = absurd (let is = eqb-true (partition_in options a) p same in let low = partition_of-below (key_of a) options.partitions some in omega (arith, is, low, high))
-      by false apart = none_beyond p high answers
+      by : (b : Bool) → (partition_in options a == p) ≡ b → answers_of options p answers ≡ [] → cond b (a ∷ answers_of options p answers) (answers_of options p answers) ≡ []
+      by true same rest = absurd (let is = eqb-true (partition_in options a) p same in let low = partition_of-below (key_of a) options.partitions some in omega (arith, is, low, high))
+      by false apart rest = rest
 
   -- also where there is no part
-  order : (p : ℕ) → OneOrder options [] p fronts
+  pub order : (p : ℕ) → OneOrder options [] p fronts
   order p = by (ltb p options.partitions) refl
     where
       by : (b : Bool) → ltb p options.partitions ≡ b → OneOrder options [] p fronts
@@ -122,7 +122,7 @@ module _ (options : Options) (base : ℕ) (some : 1 ≤ options.partitions) (fro
   marks_in p f = filter (λ m. partition_in options m.answered == p) (marks f)
 
   in_part : (p f : ℕ) → AllByRecursion (λ m. IsMark options base m × (partition_in options m.answered ≡ p)) (marks_in p f)
-  in_part p f = all_both (marks_in p f) (all_filter (IsMark options base) (λ m. partition_in options m.answered == p) (marks f) (each f))
+  in_part p f = all_both (IsMark options base) (λ m. partition_in options m.answered ≡ p) (marks_in p f) (all_filter (IsMark options base) (λ m. partition_in options m.answered == p) (marks f) (each f))
       (all_map (marks_in p f) (passed (λ m. partition_in options m.answered == p) (marks f)) (λ m is. eqb-true (partition_in options m.answered) p is))
 
   marks_zip : (p f : ℕ) → AllZip (IsMarked p) (filter (λ t. t.front == f) (order p).turns) (marks_in p f)
@@ -206,7 +206,7 @@ module _ (options : Options) (base : ℕ) (some : 1 ≤ options.partitions) (fro
   all_of_map P f (x ∷ xs) all = (all.0, all_of_map P f xs all.1)
 
   pub all_pieces : (p : ℕ) → AllByRecursion IsOne (pieces p)
-  all_pieces p = pieces_are p [] (woven p).pairs (all_both (woven p).pairs (woven p).each
+  all_pieces p = pieces_are p [] (woven p).pairs (all_both (λ z. IsMarked p z.0 z.1) (λ z. z.0.front < length fronts) (woven p).pairs (woven p).each
       (all_of_map (λ (t : Turn). t.front < length fronts) (λ z. z.0) (woven p).pairs (subst (AllByRecursion (λ (t : Turn). t.front < length fronts)) (sym (woven p).firsts) (order p).no_others)))
 
   -- Stories
@@ -236,7 +236,7 @@ module _ (options : Options) (base : ℕ) (some : 1 ≤ options.partitions) (fro
           ∙ map_twice (λ (z : Turn × Mark). z.1) pair_of (pieces_by p f)
 
       facts : AllByRecursion (λ c. (c.turn.front ≡ f) × IsOne c) (pieces_by p f)
-      facts = all_both (pieces_by p f) (all_map (pieces_by p f) (passed (λ (c : Piece). c.turn.front == f) (pieces p)) (λ c is. eqb-true c.turn.front f is)) (all_filter IsOne (λ c. c.turn.front == f) (pieces p) (all_pieces p))
+      facts = all_both (λ c. c.turn.front ≡ f) IsOne (pieces_by p f) (all_map (pieces_by p f) (passed (λ (c : Piece). c.turn.front == f) (pieces p)) (λ c is. eqb-true c.turn.front f is)) (all_filter IsOne (λ c. c.turn.front == f) (pieces p) (all_pieces p))
 
   abbrev part_at : Mark → ℕ
   part_at m = partition_in options m.answered
@@ -271,30 +271,24 @@ module _ (options : Options) (base : ℕ) (some : 1 ≤ options.partitions) (fro
 
   -- What clients asked for
 
-  abbrev pub IsAskedDeed : Mark → Done → Type 0
-  IsAskedDeed m done = (done.client ≡ m.client) × IsDeedOf options base m.answered m.purpose done.deed × (second_of done.deed ≡ second_in options m.answered)
-
   abbrev is_asked_for : Done → Bool
   is_asked_for done = is_some done.client
 
   asked_pairs : (f : ℕ) (pairs : List (Mark × Piece)) → AllByRecursion (λ w. IsStep f w.0 w.1) pairs
-      → AllZip IsAskedDeed (filter for_client (map (λ w. w.0) pairs)) (filter is_asked_for (flat_map dones_at pairs))
+      → AllZip (IsAskedDeed options base) (filter for_client (map (λ w. w.0) pairs)) (filter is_asked_for (flat_map dones_at pairs))
   asked_pairs f [] all = tt
   asked_pairs f (w ∷ pairs) all =
-      subst (λ m. AllZip IsAskedDeed (filter for_client (m ∷ map (λ w. w.0) pairs)) (filter is_asked_for (flat_map dones_at (w ∷ pairs)))) (sym all.0.0)
-      (subst (AllZip IsAskedDeed (filter for_client (w.1.mark ∷ map (λ w. w.0) pairs))) (sym (filter-append is_asked_for w.1.dones (flat_map dones_at pairs)))
-      (go w.1.mark.client refl all.0.2.0.asked))
+      subst (λ m. AllZip (IsAskedDeed options base) (filter for_client (m ∷ map (λ w. w.0) pairs)) (filter is_asked_for (flat_map dones_at (w ∷ pairs)))) (sym all.0.0)
+      (subst (AllZip (IsAskedDeed options base) (filter for_client (w.1.mark ∷ map (λ w. w.0) pairs))) (sym (filter-append is_asked_for w.1.dones (flat_map dones_at pairs)))
+      (go w.1.mark.client refl (asked_pairs f pairs all.1) all.0.2.0.asked))
     where
-      later : AllZip IsAskedDeed (filter for_client (map (λ w. w.0) pairs)) (filter is_asked_for (flat_map dones_at pairs))
-      later = asked_pairs f pairs all.1
+      go : (o : Option ℕ) → w.1.mark.client ≡ o → AllZip (IsAskedDeed options base) (filter for_client (map (λ w. w.0) pairs)) (filter is_asked_for (flat_map dones_at pairs)) → AskedIn options base o w.1.mark (filter is_asked_for w.1.dones)
+          → AllZip (IsAskedDeed options base) (cond (is_some o) (w.1.mark ∷ filter for_client (map (λ w. w.0) pairs)) (filter for_client (map (λ w. w.0) pairs))) (filter is_asked_for w.1.dones ++ filter is_asked_for (flat_map dones_at pairs))
+      go None is later none = subst (λ l. AllZip (IsAskedDeed options base) (filter for_client (map (λ w. w.0) pairs)) (l ++ filter is_asked_for (flat_map dones_at pairs))) (sym none) later
+      go (Some c) is later one = subst (λ l. AllZip (IsAskedDeed options base) (w.1.mark ∷ filter for_client (map (λ w. w.0) pairs)) (l ++ filter is_asked_for (flat_map dones_at pairs))) (sym one.1) ((one.2 ∙ sym is, one.3, one.4), later)
 
-      go : (o : Option ℕ) → w.1.mark.client ≡ o → AskedIn options base o w.1.mark (filter is_asked_for w.1.dones)
-          → AllZip IsAskedDeed (cond (is_some o) (w.1.mark ∷ filter for_client (map (λ w. w.0) pairs)) (filter for_client (map (λ w. w.0) pairs))) (filter is_asked_for w.1.dones ++ filter is_asked_for (flat_map dones_at pairs))
-      go None is none = subst (λ l. AllZip IsAskedDeed (filter for_client (map (λ w. w.0) pairs)) (l ++ filter is_asked_for (flat_map dones_at pairs))) (sym none) later
-      go (Some c) is one = subst (λ l. AllZip IsAskedDeed (w.1.mark ∷ filter for_client (map (λ w. w.0) pairs)) (l ++ filter is_asked_for (flat_map dones_at pairs))) (sym one.1) ((one.2 ∙ sym is, one.3, one.4), later)
-
-  pub asked_zip : (f : ℕ) → AllZip IsAskedDeed (filter for_client (marks f)) (filter is_asked_for (deeds f))
-  asked_zip f = subst (λ l. AllZip IsAskedDeed (filter for_client l) (filter is_asked_for (deeds f))) (story f).firsts (asked_pairs f (story f).pairs (story f).each)
+  pub asked_zip : (f : ℕ) → AllZip (IsAskedDeed options base) (filter for_client (marks f)) (filter is_asked_for (deeds f))
+  asked_zip f = subst (λ l. AllZip (IsAskedDeed options base) (filter for_client l) (filter is_asked_for (deeds f))) (story f).firsts (asked_pairs f (story f).pairs (story f).each)
 
   -- each deed was done at the second of its answer
   pub each_second : (f : ℕ) → AllByRecursion (λ w. AllByRecursion (λ (done : Done). second_of done.deed ≡ second_in options w.0.answered) (dones_at w)) (story f).pairs

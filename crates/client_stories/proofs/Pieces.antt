@@ -24,6 +24,10 @@ use Rattle.part_courses.proofs.Courses.{own_key}
 use Rattle.client_stories.proofs.Marks.{Mark, is_wanted}
 use Rattle.client_stories.proofs.Talks.{IsDeedOf}
 
+and_then : (p q : Bool) (o : Option ℕ) → cond (p && q) o None ≡ cond p (cond q o None) None
+and_then true q o = refl
+and_then false q o = refl
+
 module _ (options : Options) (base : ℕ) where
   abbrev pub part : List ℕ → ℕ
   part key = partition_of key options.partitions
@@ -47,6 +51,10 @@ module _ (options : Options) (base : ℕ) where
   AskedIn None m dones = dones ≡ []
   AskedIn (Some c) m dones = (done : Done) × (dones ≡ done ∷ []) × (done.client ≡ Some c) × IsDeedOf options base m.answered m.purpose done.deed × (second_of done.deed ≡ second_in options m.answered)
 
+  -- a deed that a client asked for, by its mark
+  abbrev pub IsAskedDeed : Mark → Done → Type 0
+  IsAskedDeed m done = (done.client ≡ m.client) × IsDeedOf options base m.answered m.purpose done.deed × (second_of done.deed ≡ second_in options m.answered)
+
   pub record IsPiece (share : ℕ) (m : Mark) (dones : List Done) : Type 0 where
     pub each : AllByRecursion (IsOwnDeed share m.answered) dones
     pub asked : AskedIn m.client m (filter (λ done. is_some done.client) dones)
@@ -59,6 +67,7 @@ module _ (options : Options) (base : ℕ) where
       → second_of (flushed p number flush accepted) ≡ second_in options (wrote step)
   flush_second p number step flush accepted is own in_p =
       (λ i. if ((sym in_p i) == 0) && nat_lt 0 (sym own i).due then Some (sym own i).asked else None)
+      ∙ and_then (partition_of step.write.key options.partitions == 0) (nat_lt 0 (flush_in step.write.key).due) (Some (flush_in step.write.key).asked)
       ∙ ap (λ b. if b && (partition_of step.write.key options.partitions == 0) then second_asked (flush_in step.write.key) else None) (sym is)
 
   module _ (p written share : ℕ) where
@@ -85,7 +94,7 @@ module _ (options : Options) (base : ℕ) where
 
         by : (b : Bool) → IsPiece share m (map (done_by (served share m)) (cond b (first ∷ []) [] ++ last ∷ []))
         by true = record {
-          each = (record { own = refl; in_part = here; asked = refl; second = refl }, record { own = refl; in_part = here; asked = refl; second = refl }, tt);
+          each = (record { own = refl; in_part = here; asked = refl; second = refl }, (record { own = refl; in_part = here; asked = refl; second = refl }, tt));
           asked = (done_by (served share m) last, refl, refl, (refl, refl, refl), refl);
         }
         by false = record {

@@ -1,9 +1,9 @@
 -- What the answers to a client were given for, by what it said. It is the same at each later moment.
-use Rattle.std.specs.Prelude.{⊤, AllZip, ◌&&◌, ◌+◌, flat_map, if◌then◌else◌}
-use Rattle.std.specs.List.{AllByRecursion}
-use Rattle.std.proofs.Common.{◌≡◌, ◌≢◌, ◌==◌, ◌≤◌, ◌<◌, ◌⊎◌, inl, inr, ℕ, zero, suc, Bool, true, false, cond, ltb, List, [], ◌∷◌, ◌++◌, length, map, drop, refl, sym, ap, subst, ◌∙◌, append-nil, append_assoc, arith, length-append, length-map}
+use Rattle.std.specs.Prelude.{⊤, ◌&&◌, ◌+◌, flat_map, if◌then◌else◌}
+use Rattle.std.specs.List.{AllZip, AllByRecursion}
+use Rattle.std.proofs.Common.{◌≡◌, ◌≢◌, ◌==◌, ◌≤◌, ◌<◌, ◌⊎◌, inl, inr, ℕ, zero, suc, Bool, true, false, cond, ltb, List, [], ◌∷◌, ◌++◌, length, map, drop, refl, sym, ap, subst, ◌∙◌, append-nil, append_assoc, arith, length-append}
 use Rattle.std.proofs.lemmas.Bool.{eqb-true, ltb-true, ltb-false}
-use Rattle.std.proofs.lemmas.List.{map-append, drop-append-le, drop_all}
+use Rattle.std.proofs.lemmas.List.{length-map, map-append, drop-append-le, drop_all}
 use Rattle.mica_words.specs.Hash.{partition_of}
 use Rattle.mica_words.proofs.Hashes.{partition_of-below}
 use Rattle.partition_model.specs.declared.options.Options.{Options}
@@ -188,7 +188,7 @@ module _ (options : Options) (base : ℕ) (some : 1 ≤ options.partitions) wher
       none_before : (z rest : List Answered) → [] ≡ z ++ rest → z ≡ []
       none_before [] rest is = refl
       none_before (a ∷ z) rest is = absurd (cc)
-  stable bytes more (e ∷ said) (other ∷ longer) rest left later short long is = by said refl
+  stable bytes more (e ∷ said) (other ∷ longer) rest left later short long is = by said refl (λ there rest_is. stable (drop (len_of e.next) bytes) more said longer rest left later short.2 there rest_is)
     where
       same : other.next ≡ e.next
       same = sym long.0.next ∙ next_stays bytes more (λ waits. short.0.some (sym short.0.next ∙ waits)) ∙ short.0.next
@@ -199,13 +199,13 @@ module _ (options : Options) (base : ℕ) (some : 1 ≤ options.partitions) wher
       first : (z : List Purpose) × (purposes_in other ≡ purposes_in e ++ z)
       first = same_purposes e other aligned.more same aligned.longer
 
-      by : (l : List Exchange) → said ≡ l → (z : List Purpose) × (purposes_of (other ∷ longer) ≡ purposes_of (e ∷ said) ++ z)
-      by [] none = (
+      by : (l : List Exchange) → said ≡ l → (Spells options base (drop (len_of e.next) bytes ++ more) longer left → answers_to_all longer ≡ answers_to_all said ++ later → (z : List Purpose) × (purposes_of longer ≡ purposes_of said ++ z)) → (z : List Purpose) × (purposes_of (other ∷ longer) ≡ purposes_of (e ∷ said) ++ z)
+      by [] none again = (
         first.0 ++ purposes_of longer,
         ap (λ l. l ++ purposes_of longer) first.1 ∙ append_assoc (purposes_in e) first.0 (purposes_of longer)
             ∙ ap (λ l. l ++ (first.0 ++ purposes_of longer)) (sym (append-nil (purposes_in e)) ∙ ap (λ l. purposes_in e ++ purposes_of l) (sym none)),
       )
-      by (y ∷ ys) some = elim short.1 [
+      by (y ∷ ys) some again = elim short.1 [
         | inl none ↦ absurd (let both : y ∷ ys ≡ [] = sym some ∙ none in cc)
         | inr whole ↦ behind whole.0
       ]
@@ -224,5 +224,5 @@ module _ (options : Options) (base : ℕ) (some : 1 ≤ options.partitions) wher
               let come = some_left (ltb (length bytes) (len_of e.next)) refl in
               let there : Spells options base (drop (len_of e.next) bytes ++ more) longer left = subst (λ b. Spells options base b longer left) (ap (λ n. drop (len_of n) (bytes ++ more)) same ∙ drop-append-le (len_of e.next) bytes more come) long.2 in
               let rest_is : answers_to_all longer ≡ answers_to_all said ++ later = sym (aligned.left ∙ ap (λ l. l ++ answers_to_all longer) none) in
-              let later_ones = stable (drop (len_of e.next) bytes) more said longer rest left later short.2 there rest_is in
+              let later_ones = again there rest_is in
               (later_ones.0, ap (λ l. l ++ purposes_of longer) here ∙ ap (λ l. purposes_in e ++ l) later_ones.1 ∙ sym (append_assoc (purposes_in e) (purposes_of said) later_ones.0))

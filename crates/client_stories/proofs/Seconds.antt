@@ -1,6 +1,6 @@
 -- The seconds of deeds, by the log of a share.
-use Rattle.std.specs.Prelude.{⊤, AllZip, ◌==◌, is_some, IfSome, filter_map, flat_map, AllPairs}
-use Rattle.std.specs.List.{AllByRecursion, cons_option}
+use Rattle.std.specs.Prelude.{⊤, ◌==◌, is_some, IfSome, filter_map, flat_map, AllPairs}
+use Rattle.std.specs.List.{AllZip, AllByRecursion, cons_option}
 use Rattle.std.proofs.Common.{◌≡◌, ◌≤◌, ◌<◌, ◌+◌, ◌-◌, ◌⊎◌, inl, inr, ℕ, zero, suc, Bool, true, false, cond, List, [], ◌∷◌, ◌++◌, length, map, take, drop, Option, Some, None, refl, sym, ap, subst, ◌∙◌, append-nil, append_assoc, arith, length-append}
 use Rattle.std.proofs.lemmas.List.Elements.{All-from_recursion}
 use Rattle.std.proofs.lemmas.List.Kept.{AllPairs-cons}
@@ -114,11 +114,11 @@ seconds_in dones = filter_map (λ (done : Done). second_of done.deed) dones
 
 seconds_append : (xs ys : List Done) → seconds_in (xs ++ ys) ≡ seconds_in xs ++ seconds_in ys
 seconds_append [] ys = refl
-seconds_append (x ∷ xs) ys = by (second_of x.deed)
+seconds_append (x ∷ xs) ys = by (second_of x.deed) (seconds_append xs ys)
   where
-    by : (o : Option ℕ) → cons_option o (seconds_in (xs ++ ys)) ≡ cons_option o (seconds_in xs) ++ seconds_in ys
-    by None = seconds_append xs ys
-    by (Some s) = ap (λ l. s ∷ l) (seconds_append xs ys)
+    by : (o : Option ℕ) → seconds_in (xs ++ ys) ≡ seconds_in xs ++ seconds_in ys → cons_option o (seconds_in (xs ++ ys)) ≡ cons_option o (seconds_in xs) ++ seconds_in ys
+    by None rest = rest
+    by (Some s) rest = ap (λ l. s ∷ l) rest
 
 rise_group : (o : Option ℕ) (dones : List Done) (rest deeds : List ℕ) (from to : ℕ) → AllByRecursion (λ (done : Done). second_of done.deed ≡ o) dones → Rise from (cons_option o rest) to
     → ((low : ℕ) → Rise low rest to → Rise low deeds to) → Rise from (seconds_in dones ++ deeds) to

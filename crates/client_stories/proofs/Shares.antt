@@ -1,8 +1,8 @@
 -- What the thread of a share answered, each with what it was given for; and its talks on the page.
-use Rattle.std.specs.Prelude.{⊤, AllZip, ◌==◌, is_some}
-use Rattle.std.specs.List.{AllByRecursion}
-use Rattle.std.proofs.Common.{◌≡◌, ◌≤◌, ◌<◌, ℕ, zero, suc, Bool, true, false, cond, List, [], ◌∷◌, ◌++◌, length, map, filter, take, drop, Option, Some, None, refl, sym, ap, subst, ◌∙◌, append-nil, append_assoc, arith, length-append, length-map}
-use Rattle.std.proofs.lemmas.List.{map-append}
+use Rattle.std.specs.Prelude.{⊤, ◌==◌, is_some}
+use Rattle.std.specs.List.{AllZip, AllByRecursion}
+use Rattle.std.proofs.Common.{◌≡◌, ◌≤◌, ◌<◌, ℕ, zero, suc, Bool, true, false, cond, List, [], ◌∷◌, ◌++◌, length, map, filter, take, drop, Option, Some, None, refl, sym, ap, subst, ◌∙◌, append-nil, append_assoc, arith, length-append}
+use Rattle.std.proofs.lemmas.List.{length-map, map-append}
 use Rattle.std.proofs.lemmas.List.Elements.{filter-append}
 use Rattle.partition_model.specs.declared.options.Options.{Options}
 use Rattle.connections.specs.declared.schedule.Step.{Step}
@@ -24,18 +24,18 @@ use Rattle.client_stories.proofs.Talks.{IsDeedOf, AreDeeds, purposes_long, OnPag
 use Rattle.client_stories.proofs.Marks.{is_wanted, given_mark}
 use Rattle.client_stories.proofs.Fits.{IsFound, found}
 use Rattle.client_stories.proofs.Moments.{received_more, first_at, talks_at, begins_at, talk_in}
-use Rattle.client_stories.proofs.Parts.{IsAskedDeed}
+use Rattle.client_stories.proofs.Pieces.{IsAskedDeed}
 
 -- what is given of the front's answers to one client, by those that begin with these
 given_more : (c : ℕ) (first later : List Given) → given_to c (first ++ later) ≡ given_to c first ++ given_to c later
 given_more c first later = ap answers_in (filter-append (λ g. g.to == c) first later) ∙ map-append (λ (g : Given). g.answered) (filter (λ g. g.to == c) first) (filter (λ g. g.to == c) later)
 
 -- a relation of values, of what they are mapped from
-zip_from_map : {A B C : Type 0} {R : C → B → Type 0} (f : A → C) (xs : List A) (ys : List B) → AllZip R (map f xs) ys → AllZip (λ x y. R (f x) y) xs ys
-zip_from_map f [] [] zip = tt
-zip_from_map f [] (y ∷ ys) zip = absurd zip
-zip_from_map f (x ∷ xs) [] zip = absurd zip
-zip_from_map f (x ∷ xs) (y ∷ ys) zip = (zip.0, zip_from_map f xs ys zip.1)
+zip_from_map : {A B C : Type 0} (R : C → B → Type 0) (f : A → C) (xs : List A) (ys : List B) → AllZip R (map f xs) ys → AllZip (λ x y. R (f x) y) xs ys
+zip_from_map R f [] [] zip = tt
+zip_from_map R f [] (y ∷ ys) zip = absurd zip
+zip_from_map R f (x ∷ xs) [] zip = absurd zip
+zip_from_map R f (x ∷ xs) (y ∷ ys) zip = (zip.0, zip_from_map R f xs ys zip.1)
 
 pub take_first : {X : Type 0} (xs ys : List X) → take (length xs) (xs ++ ys) ≡ xs
 take_first [] ys = refl
@@ -47,7 +47,7 @@ drop_first (x ∷ xs) ys = drop_first xs ys
 
 module _ (options : Options) (base most : ℕ) (some : 1 ≤ options.partitions) (schedule : List Step) (lacking : List ℕ) (entries : List Entry) (given : List Given)
     (through : TalksThrough options base most schedule lacking entries given) (fit : (c : ℕ) → AsksFit (received_of c entries)) where
-  final : (c : ℕ) → Talk options base (received_of c entries) (sent_of c entries) (given_to c given)
+  pub final : (c : ℕ) → Talk options base (received_of c entries) (sent_of c entries) (given_to c given)
   final c = talk_in options base most schedule lacking c (received_of c entries) (sent_of c entries) (given_to c given) (talks_at options base most schedule lacking 0 entries given through c)
 
   -- what each answer to a client was given for
@@ -58,7 +58,7 @@ module _ (options : Options) (base most : ℕ) (some : 1 ≤ options.partitions)
   IsGiven g purpose = IsFound options base g.answered purpose
 
   given_zip : (c : ℕ) → AllZip IsGiven (filter (λ g. g.to == c) given) (purposes_for c)
-  given_zip c = zip_from_map (λ (g : Given). g.answered) (filter (λ g. g.to == c) given) (purposes_for c)
+  given_zip c = zip_from_map (IsFound options base) (λ (g : Given). g.answered) (filter (λ g. g.to == c) given) (purposes_for c)
       (subst (λ l. AllZip (IsFound options base) l (purposes_for c)) (final c).answered (found options base (received_of c entries) (final c).said (final c).rest (fit c) (final c).spells))
 
   pub woven : Woven (λ g. g.to) IsGiven given purposes_for
@@ -83,16 +83,22 @@ module _ (options : Options) (base most : ℕ) (some : 1 ≤ options.partitions)
     are_deeds c (z ∷ first) [] zip = absurd zip
     are_deeds c (z ∷ first) (done ∷ dones) zip =
         subst (λ o. AreDeeds options base (given_to c (z.0 ∷ map (λ z. z.0) first)) (of_client c (z ∷ first)) (map (λ (d : Done). d.deed) (cond (is_for c o) (done ∷ filter (λ d. is_for c d.client) dones) (filter (λ d. is_for c d.client) dones)))) (sym zip.0.0)
-        (by (z.0.to == c))
+        (by (z.0.to == c) (are_deeds c first dones zip.1))
       where
-        rest : AreDeeds options base (given_to c (map (λ z. z.0) first)) (of_client c first) (done_for c dones)
-        rest = are_deeds c first dones zip.1
-
-        by : (b : Bool) → AreDeeds options base (answers_in (cond b (z.0 ∷ filter (λ g. g.to == c) (map (λ z. z.0) first)) (filter (λ g. g.to == c) (map (λ z. z.0) first))))
+        by : (b : Bool) → AreDeeds options base (given_to c (map (λ z. z.0) first)) (of_client c first) (done_for c dones) → AreDeeds options base (answers_in (cond b (z.0 ∷ filter (λ g. g.to == c) (map (λ z. z.0) first)) (filter (λ g. g.to == c) (map (λ z. z.0) first))))
             (map (λ (z : Given × Purpose). z.1) (cond b (z ∷ filter (λ z. z.0.to == c) first) (filter (λ z. z.0.to == c) first)))
             (map (λ (d : Done). d.deed) (cond b (done ∷ filter (λ d. is_for c d.client) dones) (filter (λ d. is_for c d.client) dones)))
-        by true = (zip.0.1, rest)
-        by false = rest
+        by true rest = (zip.0.1, rest)
+        by false rest = rest
+
+    many : (c : ℕ) (first : List (Given × Purpose)) → length (of_client c first) ≡ length (given_to c (map (λ z. z.0) first))
+    many c [] = refl
+    many c (z ∷ first) = by (z.0.to == c) (many c first)
+      where
+        by : (b : Bool) → length (of_client c first) ≡ length (given_to c (map (λ z. z.0) first)) → length (map (λ (z : Given × Purpose). z.1) (cond b (z ∷ filter (λ z. z.0.to == c) first) (filter (λ z. z.0.to == c) first)))
+            ≡ length (answers_in (cond b (z.0 ∷ filter (λ g. g.to == c) (map (λ z. z.0) first)) (filter (λ g. g.to == c) (map (λ z. z.0) first))))
+        by true rest = omega (arith, rest)
+        by false rest = rest
 
     -- those at a moment
     pub record At (k : ℕ) : Type 0 where
@@ -116,7 +122,7 @@ module _ (options : Options) (base most : ℕ) (some : 1 ≤ options.partitions)
       later = d.later;
       whole = d.whole;
       zip_first = d.firsts;
-      long = sym (zip_long p.first d.first d.firsts) ∙ sym (length-map p.first (λ (z : Given × Purpose). z.0)) ∙ ap length p.firsts;
+      long = sym (zip_long IsDone p.first d.first d.firsts) ∙ sym (length-map p.first (λ (z : Given × Purpose). z.0)) ∙ ap length p.firsts;
     }
       where
         begins : (later : List Given) × (given ≡ first_at options base most schedule lacking k entries given through ++ later)
@@ -156,15 +162,6 @@ module _ (options : Options) (base most : ℕ) (some : 1 ≤ options.partitions)
             sym (ap (map (λ (z : Given × Purpose). z.1)) (filter-append (λ (z : Given × Purpose). z.0.to == c) now.pairs_first now.pairs_later) ∙ map-append (λ (z : Given × Purpose). z.1) (filter (λ z. z.0.to == c) now.pairs_first) (filter (λ z. z.0.to == c) now.pairs_later))
             ∙ ap (of_client c) (sym now.pairs_whole) ∙ woven.seconds c ∙ more.1
 
-        many : (first : List (Given × Purpose)) → length (of_client c first) ≡ length (given_to c (map (λ z. z.0) first))
-        many [] = refl
-        many (z ∷ first) = by (z.0.to == c)
-          where
-            by : (b : Bool) → length (map (λ (z : Given × Purpose). z.1) (cond b (z ∷ filter (λ z. z.0.to == c) first) (filter (λ z. z.0.to == c) first)))
-                ≡ length (answers_in (cond b (z.0 ∷ filter (λ g. g.to == c) (map (λ z. z.0) first)) (filter (λ g. g.to == c) (map (λ z. z.0) first))))
-            by true = let rest = many first in omega (arith, rest)
-            by false = many first
-
         same : of_client c now.pairs_first ≡ purposes_of talk.said
         same = (same_first (of_client c now.pairs_first) (of_client c now.pairs_later) (purposes_of talk.said) more.0 mine
-            (many now.pairs_first ∙ ap (λ l. length (given_to c l)) now.given_is ∙ ap length (sym talk.answered) ∙ sym (purposes_long options base (received_of c (drop k entries)) talk.said talk.rest talk.spells))).0
+            (many c now.pairs_first ∙ ap (λ l. length (given_to c l)) now.given_is ∙ ap length (sym talk.answered) ∙ sym (purposes_long options base (received_of c (drop k entries)) talk.said talk.rest talk.spells))).0

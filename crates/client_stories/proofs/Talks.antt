@@ -1,8 +1,10 @@
 -- What was talked with a client, by answers, is a talk on the page, by deeds.
-use Rattle.std.specs.Prelude.{⊤, AllZip, ◌&&◌, ◌||◌, not, nat_le, filter_map, flat_map, if◌then◌else◌}
-use Rattle.std.specs.List.{list_all, list_any}
-use Rattle.std.proofs.Common.{◌≡◌, ◌≢◌, ◌==◌, ◌≤◌, ◌<◌, ◌⊎◌, inl, inr, ℕ, zero, suc, Bool, true, false, cond, List, [], ◌∷◌, ◌++◌, length, take, drop, map, Option, Some, None, refl, sym, ap, subst, ◌∙◌, append-nil, append_assoc, arith, length-append, length-map}
-use Rattle.std.proofs.lemmas.Bool.{eqb-true, le-leb, leb-true, leb-false}
+use Rattle.std.specs.Prelude.{⊤, ◌&&◌, ◌||◌, not, nat_le, filter_map, flat_map, if◌then◌else◌}
+use Rattle.std.specs.List.{AllZip, list_all, list_any}
+use Rattle.std.proofs.Common.{◌≡◌, ◌≢◌, ◌==◌, ◌≤◌, ◌<◌, ◌⊎◌, inl, inr, ℕ, zero, suc, Bool, true, false, cond, List, [], ◌∷◌, ◌++◌, length, take, drop, map, Option, Some, None, refl, sym, ap, subst, ◌∙◌, append-nil, append_assoc, arith, length-append}
+use Rattle.std.proofs.lemmas.List.{length-map}
+use Rattle.std.proofs.Math.Dec.{eqb-suc-zero}
+use Rattle.std.proofs.lemmas.Bool.{le-leb, leb-true, leb-false}
 use Rattle.partition_model.specs.declared.options.Options.{Options}
 use Rattle.partition_model.specs.Write.{is_accepted}
 use Rattle.memcached_text.specs.declared.reply.Reply.TheVariants.{Done as Okay, NoRoom}
@@ -153,16 +155,15 @@ module _ (options : Options) (base : ℕ) where
   -- Due
 
   abbrev saids : List Asked → List Answered → List (List ℕ × Says)
-  saids all [] = []
-  saids [] (a ∷ answers) = []
+  saids [] answers = []
+  saids (asked ∷ all) [] = []
   saids (asked ∷ all) (a ∷ answers) = (asked.key, said_of base asked a) ∷ saids all answers
 
   saids_are : (style : Style) (all : List Asked) (answers : List Answered) (deeds : List Deed) → AreDeeds answers (asked_of (asks_by style all answers) answers) deeds
       → take (length all) (filter_map said_in deeds) ≡ saids all answers
-  saids_are style [] [] [] are = refl
+  saids_are style [] answers deeds are = refl
   saids_are style (asked ∷ all) [] [] are = refl
-  saids_are style all [] (d ∷ deeds) are = absurd are
-  saids_are style [] (a ∷ answers) deeds are = refl
+  saids_are style (asked ∷ all) [] (d ∷ deeds) are = absurd are
   saids_are style (asked ∷ []) (a ∷ answers) [] are = absurd are
   saids_are style (asked ∷ []) (a ∷ answers) (carried second number own says ∷ deeds) are = λ i. ((are.0.0 i).key, are.0.1 i) ∷ []
   saids_are style (asked ∷ []) (a ∷ answers) (flushed part number own accepted ∷ deeds) are = absurd are.0
@@ -188,20 +189,30 @@ module _ (options : Options) (base : ℕ) where
           by true le = absurd (let a = leb-true (suc m) (suc n) le in let b = leb-false m n is in omega (arith, a, b))
           by false gt = gt ∙ sym is
 
+  no_text : (style : Style) (answers : List Answered) → [] ≡ asks_text base style [] answers
+  no_text style [] = refl
+  no_text style (a ∷ answers) = refl
+
+  not_last : (m : ℕ) → nat_le (suc (suc m)) 1 ≡ false
+  not_last m = by (nat_le (suc (suc m)) 1) refl
+    where
+      by : (b : Bool) → nat_le (suc (suc m)) 1 ≡ b → nat_le (suc (suc m)) 1 ≡ false
+      by true le = absurd (let is = leb-true (suc (suc m)) 1 le in omega (arith, is))
+      by false is = is
+
   texts_are : (style : Style) (all : List Asked) (answers : List Answered) → saids_text style (nat_le (length all) (length answers)) (saids all answers) ≡ asks_text base style all answers
-  texts_are style all [] = refl
-  texts_are style [] (a ∷ answers) = refl
+  texts_are style [] answers = no_text style answers
+  texts_are style (asked ∷ all) [] = refl
   texts_are style (asked ∷ []) (a ∷ answers) =
       ap (λ b. said_text style b asked.key (said_of base asked a)) (le-leb 1 (suc (length answers)) (omega arith)) ∙ sym (append-nil (said_text style true asked.key (said_of base asked a)))
-      ∙ ap (λ l. said_text style true asked.key (said_of base asked a) ++ l) (none answers)
-    where
-      none : (answers : List Answered) → [] ≡ asks_text base style [] answers
-      none [] = refl
-      none (a ∷ answers) = refl
-  texts_are style (asked ∷ next ∷ all) (a ∷ []) = sym (append-nil (said_text style false asked.key (said_of base asked a)))
+      ∙ ap (λ l. said_text style true asked.key (said_of base asked a) ++ l) (no_text style answers)
+  texts_are style (asked ∷ next ∷ all) (a ∷ []) =
+      ap (λ b. said_text style b asked.key (said_of base asked a)) (not_last (length all)) ∙ sym (append-nil (said_text style false asked.key (said_of base asked a)))
+      ∙ ap (λ b. said_text style b asked.key (said_of base asked a) ++ []) (sym (eqb-suc-zero (length all)))
   texts_are style (asked ∷ next ∷ all) (a ∷ b ∷ answers) =
       ap (λ t. said_text style false asked.key (said_of base asked a) ++ saids_text style t (saids (next ∷ all) (b ∷ answers))) (le_suc (suc (length all)) (suc (length answers)))
       ∙ ap (λ l. said_text style false asked.key (said_of base asked a) ++ l) (texts_are style (next ∷ all) (b ∷ answers))
+      ∙ ap (λ t. said_text style t asked.key (said_of base asked a) ++ asks_text base style (next ∷ all) (b ∷ answers)) (sym (eqb-suc-zero (length all)))
 
   -- One exchange
 
@@ -292,32 +303,32 @@ module _ (options : Options) (base : ℕ) where
       → Paged bytes said rest deeds
   paged bytes [] rest [] spells are = record { exchanges = []; reads = spells; done = refl; due = refl; alike = tt }
   paged bytes [] rest (d ∷ deeds) spells are = absurd are
-  paged bytes (e ∷ said) rest deeds spells are = record {
-    exchanges = as_deeds e p.first ∷ later.exchanges;
-    reads = (
-      record { next = spells.0.next; some = spells.0.some; carried_out = carries (is_flush_all e.next) e.next e.answers p.first spells.0.answers p.firsts; held = refl },
-      follows,
-      later.reads,
-    );
-    done = ap (λ l. p.first ++ l) later.done ∙ sym p.whole;
-    due = ap (λ l. l ++ due_in_all options.partitions later.exchanges) (due_alike e p.first spells.0.answers p.firsts) ∙ ap (λ l. front.due_to options base e ++ l) later.due;
-    alike = ((refl, whole), later.alike);
-  }
+  paged bytes (e ∷ said) rest deeds spells are = more (paged (drop (len_of e.next) bytes) said rest p.later spells.2 p.laters)
     where
       p : DeedsParted e.answers (answers_to_all said) (purposes_in e) (purposes_of said) deeds
       p = deeds_parted e.answers (answers_to_all said) (purposes_in e) (purposes_of said) deeds (long_by (is_flush_all e.next) e.next e.answers spells.0.answers) are
 
-      later : Paged (drop (len_of e.next) bytes) said rest p.later
-      later = paged (drop (len_of e.next) bytes) said rest p.later spells.2 p.laters
-
       whole : is_done options.partitions (as_deeds e p.first) ≡ front.is_answered options e
       whole = done_alike e p.first spells.0.answers p.firsts
 
-      follows : MayBeFollowed options.partitions (as_deeds e p.first) later.exchanges
-      follows = elim spells.1 [
-        | inl none ↦ inl (none_paged said later.exchanges later.alike none)
+      follows : (exchanges : List Exchange) → AllZip Alike said exchanges → MayBeFollowed options.partitions (as_deeds e p.first) exchanges
+      follows exchanges alike = elim spells.1 [
+        | inl none ↦ inl (none_paged said exchanges alike none)
         | inr goes ↦ inr (whole ∙ goes.0, goes.1)
       ]
+
+      more : Paged (drop (len_of e.next) bytes) said rest p.later → Paged bytes (e ∷ said) rest deeds
+      more later = record {
+        exchanges = as_deeds e p.first ∷ later.exchanges;
+        reads = (
+          record { next = spells.0.next; some = spells.0.some; carried_out = carries (is_flush_all e.next) e.next e.answers p.first spells.0.answers p.firsts; held = refl },
+          follows later.exchanges later.alike,
+          later.reads,
+        );
+        done = ap (λ l. p.first ++ l) later.done ∙ sym p.whole;
+        due = ap (λ l. l ++ due_in_all options.partitions later.exchanges) (due_alike e p.first spells.0.answers p.firsts) ∙ ap (λ l. front.due_to options base e ++ l) later.due;
+        alike = ((refl, whole), later.alike);
+      }
 
   -- What ends a talk
 

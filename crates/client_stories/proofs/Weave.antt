@@ -1,6 +1,6 @@
 -- Two lists that go by the same keys, as one.
-use Rattle.std.specs.Prelude.{⊤, AllZip}
-use Rattle.std.specs.List.{AllByRecursion}
+use Rattle.std.specs.Prelude.{⊤}
+use Rattle.std.specs.List.{AllZip, AllByRecursion}
 use Rattle.std.proofs.Common.{◌≡◌, ◌==◌, ◌≤◌, ◌<◌, ◌⊎◌, inl, inr, ℕ, zero, suc, Bool, true, false, cond, List, [], ◌∷◌, ◌++◌, length, map, filter, Option, Some, None, refl, sym, ap, subst, ◌∙◌, append-nil, append_assoc, arith}
 use Rattle.std.proofs.lemmas.Bool.{eqb-true, eq-eqb}
 
@@ -63,11 +63,11 @@ zip_and P [] (y ∷ ys) zip all f = absurd zip
 zip_and P (x ∷ xs) [] zip all f = absurd zip
 zip_and P (x ∷ xs) (y ∷ ys) zip all f = (f x y zip.0 all.0, zip_and P xs ys zip.1 all.1 f)
 
-pub zip_long : {A B : Type 0} {R : A → B → Type 0} (xs : List A) (ys : List B) → AllZip R xs ys → length xs ≡ length ys
-zip_long [] [] zip = refl
-zip_long [] (y ∷ ys) zip = absurd zip
-zip_long (x ∷ xs) [] zip = absurd zip
-zip_long (x ∷ xs) (y ∷ ys) zip = let rest = zip_long xs ys zip.1 in omega (arith, rest)
+pub zip_long : {A B : Type 0} (R : A → B → Type 0) (xs : List A) (ys : List B) → AllZip R xs ys → length xs ≡ length ys
+zip_long R [] [] zip = refl
+zip_long R [] (y ∷ ys) zip = absurd zip
+zip_long R (x ∷ xs) [] zip = absurd zip
+zip_long R (x ∷ xs) (y ∷ ys) zip = let rest = zip_long R xs ys zip.1 in omega (arith, rest)
 
 pub record ZipParted {A B : Type 0} (R : A → B → Type 0) (xs ys : List A) (zs : List B) : Type 0 where
   pub first : List B
@@ -83,19 +83,19 @@ zip_parted R (x ∷ xs) ys (z ∷ zs) zip =
     let p = zip_parted R xs ys zs zip.1 in
     record { first = z ∷ p.first; later = p.later; whole = ap (λ l. z ∷ l) p.whole; firsts = (zip.0, p.firsts); laters = p.laters }
 
-pub zip_append : {A B : Type 0} {R : A → B → Type 0} (xs ys : List A) (us vs : List B) → AllZip R xs us → AllZip R ys vs → AllZip R (xs ++ ys) (us ++ vs)
-zip_append [] ys [] vs first later = later
-zip_append [] ys (u ∷ us) vs first later = absurd first
-zip_append (x ∷ xs) ys [] vs first later = absurd first
-zip_append (x ∷ xs) ys (u ∷ us) vs first later = (first.0, zip_append xs ys us vs first.1 later)
+pub zip_append : {A B : Type 0} (R : A → B → Type 0) (xs ys : List A) (us vs : List B) → AllZip R xs us → AllZip R ys vs → AllZip R (xs ++ ys) (us ++ vs)
+zip_append R [] ys [] vs first later = later
+zip_append R [] ys (u ∷ us) vs first later = absurd first
+zip_append R (x ∷ xs) ys [] vs first later = absurd first
+zip_append R (x ∷ xs) ys (u ∷ us) vs first later = (first.0, zip_append R xs ys us vs first.1 later)
 
 pub all_filter : {X : Type 0} (P : X → Type 0) (test : X → Bool) (xs : List X) → AllByRecursion P xs → AllByRecursion P (filter test xs)
 all_filter P test [] all = tt
-all_filter P test (x ∷ xs) all = by (test x)
+all_filter P test (x ∷ xs) all = by (test x) (all_filter P test xs all.1)
   where
-    by : (b : Bool) → AllByRecursion P (cond b (x ∷ filter test xs) (filter test xs))
-    by true = (all.0, all_filter P test xs all.1)
-    by false = all_filter P test xs all.1
+    by : (b : Bool) → AllByRecursion P (filter test xs) → AllByRecursion P (cond b (x ∷ filter test xs) (filter test xs))
+    by true rest = (all.0, rest)
+    by false rest = rest
 
 -- Woven
 
@@ -125,28 +125,30 @@ module _ {A X : Type 0} (key : A → ℕ) (R : A → X → Type 0) where
   head_of a later [] zip = absurd zip
   head_of a later (x ∷ xs) zip = record { x = x; rest = xs; is = refl; own = zip.0; zip = zip.1 }
 
+  -- what is left of each list behind the first of one
+  abbrev left_of : ℕ → List X → (ℕ → List X) → ℕ → List X
+  left_of own rest lists k = cond (own == k) rest (lists k)
+
+  module _ (a : A) (list : List A) (lists : ℕ → List X) (head : Head a (filter (λ b. key b == key a) list) (lists (key a))) where
+    still : (k : ℕ) (b : Bool) → (key a == k) ≡ b → AllZip R (cond b (a ∷ filter (λ c. key c == k) list) (filter (λ c. key c == k) list)) (lists k) → AllZip R (filter (λ c. key c == k) list) (cond b head.rest (lists k))
+    still k true same zip = subst (λ m. AllZip R (filter (λ c. key c == m) list) head.rest) (eqb-true (key a) k same) head.zip
+    still k false apart zip = zip
+
+    seconds_are : (woven : Woven list (left_of (key a) head.rest lists)) (k : ℕ) (b : Bool) → (key a == k) ≡ b
+        → map (λ z. z.1) (cond b ((a, head.x) ∷ filter (λ z. key z.0 == k) woven.pairs) (filter (λ z. key z.0 == k) woven.pairs)) ≡ lists k
+    seconds_are woven k true same = ap (λ l. head.x ∷ l) (woven.seconds k ∙ ap (λ b. cond b head.rest (lists k)) same) ∙ sym head.is ∙ ap lists (eqb-true (key a) k same)
+    seconds_are woven k false apart = woven.seconds k ∙ ap (λ b. cond b head.rest (lists k)) apart
+
+    with_first : Woven list (left_of (key a) head.rest lists) → Woven (a ∷ list) lists
+    with_first woven = record {
+      pairs = (a, head.x) ∷ woven.pairs;
+      firsts = ap (λ l. a ∷ l) woven.firsts;
+      each = (head.own, woven.each);
+      seconds = λ k. seconds_are woven k (key a == k) refl;
+    }
+
   pub weave : (list : List A) (lists : ℕ → List X) → Zips list lists → Woven list lists
   weave [] lists zips = record { pairs = []; firsts = refl; each = tt; seconds = λ k. none_left (lists k) (zips k) }
-  weave (a ∷ list) lists zips = record {
-    pairs = (a, head.x) ∷ woven.pairs;
-    firsts = ap (λ l. a ∷ l) woven.firsts;
-    each = (head.own, woven.each);
-    seconds = λ k. own k (key a == k) refl;
-  }
-    where
-      head : Head a (filter (λ b. key b == key a) list) (lists (key a))
-      head = head_of a (filter (λ b. key b == key a) list) (lists (key a)) (subst (λ b. AllZip R (cond b (a ∷ filter (λ b. key b == key a) list) (filter (λ b. key b == key a) list)) (lists (key a))) (eq-eqb (key a) (key a) refl) (zips (key a)))
-
-      left : ℕ → List X
-      left k = cond (key a == k) head.rest (lists k)
-
-      still : (k : ℕ) (b : Bool) → (key a == k) ≡ b → AllZip R (cond b (a ∷ filter (λ c. key c == k) list) (filter (λ c. key c == k) list)) (lists k) → AllZip R (filter (λ c. key c == k) list) (cond b head.rest (lists k))
-      still k true same zip = subst (λ m. AllZip R (filter (λ c. key c == m) list) head.rest) (eqb-true (key a) k same) head.zip
-      still k false apart zip = zip
-
-      woven : Woven list left
-      woven = weave list left (λ k. still k (key a == k) refl (zips k))
-
-      own : (k : ℕ) (b : Bool) → (key a == k) ≡ b → map (λ z. z.1) (cond b ((a, head.x) ∷ filter (λ z. key z.0 == k) woven.pairs) (filter (λ z. key z.0 == k) woven.pairs)) ≡ lists k
-      own k true same = ap (λ l. head.x ∷ l) (woven.seconds k ∙ ap (λ b. cond b head.rest (lists k)) same) ∙ sym head.is ∙ ap lists (eqb-true (key a) k same)
-      own k false apart = woven.seconds k ∙ ap (λ b. cond b head.rest (lists k)) apart
+  weave (a ∷ list) lists zips =
+      let head = head_of a (filter (λ b. key b == key a) list) (lists (key a)) (subst (λ b. AllZip R (cond b (a ∷ filter (λ b. key b == key a) list) (filter (λ b. key b == key a) list)) (lists (key a))) (eq-eqb (key a) (key a) refl) (zips (key a))) in
+      with_first a list lists head (weave list (left_of (key a) head.rest lists) (λ k. still a list lists head k (key a == k) refl (zips k)))

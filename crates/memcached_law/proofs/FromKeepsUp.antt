@@ -27,10 +27,7 @@ use Rattle.locked_server.specs.declared.stop.Stop.TheVariants.{Refused, Unbound,
 use Rattle.locked_server.specs.Filled.{origin_of}
 use Rattle.locked_server.specs.Streams.{ListenFacts, ServesClients, ServesFrom, AreStreams, counted_by_all, others_of, with_shares}
 use Rattle.locked_server.specs.Causes.{HasCause, IsCauseOfStop}
-use Rattle.option_words.specs.Words.{Given, given_by, text_of}
-use Rattle.option_words.specs.Settings.{◌>>=◌}
-use Rattle.daemon_words.specs.DaemonWords.{Service, daemon_names, daemon_given, daemon_of}
-use Rattle.daemon_words.proofs.DaemonLemmas.{service_valid}
+use Rattle.daemon_words.specs.DaemonWords.{Service}
 use Rattle.server_words.specs.Output.{SinkFacts}
 use Rattle.daemon.specs.declared.status.DaemonStatus.{DaemonStatus}
 use Rattle.daemon.specs.declared.status.DaemonStatus.TheVariants.{Usage, NoMemory, TraceLong, ReadFault, WriteFault, NetFault, ImageRefused, UsedUp, Stopped}
@@ -43,16 +40,9 @@ use Rattle.memcached_page.specs.Shelf.{empty}
 use Rattle.memcached_page.specs.Kept.{KeepsItems}
 use Rattle.memcached_page.specs.Page.{ServesKeyByKey}
 use Rattle.client_stories.specs.Stories.{AsksFit, Talked}
+use Rattle.client_stories.proofs.Grammar.{fit_asks}
 use Rattle.client_stories.proofs.Law.{law as of_store}
 use Rattle.memcached_law.specs.Law.{IsCarriedOut, TellsLogs, MemcachedInStore}
-
--- Words that give a server give it a part.
-has_part : (processors : ℕ) (words : List (List ℕ)) (service : Service) → daemon_of processors words ≡ Some service → 1 ≤ service.options.partitions
-has_part processors words service = by (given_by daemon_names words)
-  where
-    by : (o : Option Given) → (o >>= λ given. daemon_given processors (text_of given)) ≡ Some service → 1 ≤ service.options.partitions
-    by None is = absurd (cc)
-    by (Some given) is = (service_valid processors (text_of given) service is).0.partitions.0
 
 -- With these statuses the fronts came to totals.
 
@@ -200,9 +190,12 @@ module _ (service : Service) (base : ℕ) (old new : DaemonOutside) (waited left
         none_left (d ∷ fronts) is = absurd (omega (arith, is))
 
 pub law : MemcachedInStore
-law processors words service base before after old new status waited left is no_ports no_image is_store small kept carried told fit =
+law processors words service base before after old new status waited left is no_ports no_image is_store some small kept carried told spoken =
     by (subst (λ given. KeepsUp given base before after old new status) is kept).0
   where
+    fit : (f c : ℕ) → f < service.streams.ports.fronts → AsksFit (received_of c (left f).entries)
+    fit f c low = let said = spoken f c low in fit_asks (received_of c (left f).entries) said.0 said.1
+
     by : FillsAndServes service base before after old new status
         → OnPorts (λ ports ports'.
         (serves : ServesKeyByKey service.options service.streams.ports.fronts new.lacked (λ part. empty) waited left)
@@ -217,4 +210,4 @@ law processors words service base before after old new status waited left is no_
         let none : it.0 ≡ [] = subst (λ image. Fills before image it.0) no_image it.2 in
         all_serve service base old new waited left told fit came.0 it.0
         (subst (λ answer. IsCauseOfStop answer (locked service base old new waited left told fit) it.0 new.tables new.lacked (placed (places_of service.streams) service.streams.connections old).ports new.ports) came.1 it.3.cause)
-        (has_part processors words service is) no_ports none is_store small
+        some no_ports none is_store small
