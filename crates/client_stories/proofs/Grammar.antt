@@ -9,7 +9,7 @@ use Rattle.memcached_text.specs.declared.limits.TheConstants.{MAX_TEXT_LEN}
 use Rattle.memcached_text.specs.declared.command.Command.{Command}
 use Rattle.memcached_text.specs.declared.command.Command.TheVariants as commands
 use Rattle.memcached_text.specs.declared.command.Topic.{Topic}
-use Rattle.memcached_text.specs.declared.command.Topic.TheVariants.{Server, NoPart}
+use Rattle.memcached_text.specs.declared.command.Topic.TheVariants.{Server}
 use Rattle.memcached_text.specs.declared.command.Wants.{Wants}
 use Rattle.memcached_text.specs.declared.command.Wants.TheVariants.{Whatever, Absent, Present}
 use Rattle.memcached_text.specs.declared.lifetime.Lifetime.{Lifetime}
@@ -21,6 +21,7 @@ use Rattle.memcached_text.specs.Fit.{IsFitKey, IsWant, IsKept, IsFit, IsFitNext 
 use Rattle.memcached_text.specs.Lifetimes.{IsLifetime, IsDue}
 use Rattle.memcached_text.specs.Lines.{line_at, words_of, without_return}
 use Rattle.memcached_text.specs.Next as text
+use Rattle.memcached_text.specs.ServerLine.{topic_of}
 use Rattle.memcached_text.proofs.FitLaws.{is_fit}
 use Rattle.memcached_commands.specs.Asks.{asked, get_ask}
 use Rattle.memcached_commands.specs.Fit.{IsFitAsk, IsFitInitial, IsFitAsked}
@@ -51,7 +52,7 @@ use Rattle.memcached_meta.proofs.FitLaws.{line_fits, says_fits}
 use Rattle.memcached_meta.proofs.AskLaws.{ask_fits}
 use Rattle.memcached_requests.specs.declared.request.Next.{Next}
 use Rattle.memcached_requests.specs.Lines.{request_of, of_line}
-use Rattle.memcached_requests.specs.FrameRequests.{lifetime_at, due_at, due_in, wants_of, initial_of, store_of, count_of, touch_of, request_by, is_part, stats_of, of_frame}
+use Rattle.memcached_requests.specs.FrameRequests.{lifetime_at, due_at, due_in, wants_of, initial_of, store_of, count_of, touch_of, request_by, stats_on, stats_of, of_frame}
 use Rattle.memcached_requests.specs.MetaRequests.{of_meta}
 use Rattle.memcached_requests.specs.Requests.{IsFitRequest, IsFitNext, asks_in, len_of}
 use Rattle.memcached_requests.specs.Next.{is_frame, of_text, next_of}
@@ -89,8 +90,7 @@ command_fits (commands.Count direction key delta quiet) fit = ((fit.0, (fit.1, t
 command_fits (commands.Delete key quiet) fit = ((fit, tt), tt)
 command_fits (commands.Touch key lifetime quiet) fit = ((fit.0, fit.1), tt)
 command_fits (commands.Flush due quiet) fit = fit
-command_fits (commands.Stats Server) fit = tt
-command_fits (commands.Stats NoPart) fit = omega arith
+command_fits (commands.Stats topic) fit = tt
 command_fits commands.Version fit = omega arith
 command_fits (commands.Verbosity quiet) fit = omega arith
 command_fits commands.Noop fit = omega arith
@@ -229,12 +229,16 @@ module _ (frame : Frame) (fit : frames.IsFitFrame MAX_TEXT_LEN frame) (bytes : O
   key_fits : nat_lt 0 (length frame.key) ≡ true → IsFitKey frame.key
   key_fits is = (ltb-true 0 (length frame.key) is, fit.short)
 
+  topic_fits : (o : Option Topic) → IsFitRequest (stats_on o)
+  topic_fits None = omega arith
+  topic_fits (Some topic) = tt
+
   stats_fit : IsFitRequest (stats_of frame.key)
   stats_fit = by (length frame.key == 0)
     where
-      by : (b : Bool) → IsFitRequest (cond b Stats (Said (Line (cond (is_part frame.key) replies.End replies.NotFound))))
+      by : (b : Bool) → IsFitRequest (cond b (Stats Server) (stats_on (topic_of frame.key)))
       by true = tt
-      by false = omega arith
+      by false = topic_fits (topic_of frame.key)
 
   due_is_fit : IsFitRequest (Flush (due_in frame.extras))
   due_is_fit = by (nat_lt (length frame.extras) 4)
@@ -324,7 +328,7 @@ next_fits bytes are = by (is_frame bytes) refl
 asks_of_fit : (next : Next) → IsFitNext next → AllByRecursion IsFitAsked (asks_in next)
 asks_of_fit (Whole (Keys asks) style len last) fit = fit
 asks_of_fit (Whole (Flush due) style len last) fit = tt
-asks_of_fit (Whole Stats style len last) fit = tt
+asks_of_fit (Whole (Stats topic) style len last) fit = tt
 asks_of_fit (Whole (Said says) style len last) fit = tt
 asks_of_fit More fit = tt
 
