@@ -190,7 +190,7 @@ module _ (service : Service) (base : ℕ) (old new : DaemonOutside) (waited left
         none_left (d ∷ fronts) is = absurd (omega (arith, is))
 
 pub law : MemcachedInStore
-law processors words service base before after old new status waited left is no_ports no_image is_store some small kept carried told spoken =
+law host words service base before after old new status waited left is no_ports no_image is_store some small kept carried told spoken =
     by (subst (λ given. KeepsUp given base before after old new status) is kept).0
   where
     fit : (f c : ℕ) → f < service.streams.ports.fronts → AsksFit (received_of c (left f).entries)

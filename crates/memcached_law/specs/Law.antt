@@ -5,6 +5,7 @@ use Rattle.connections.specs.Log.{Log, received_of}
 use Rattle.connections.specs.Shares.{ShareLogs}
 use Rattle.served.specs.NetRun.{OnPorts}
 use Rattle.locked_server.specs.Streams.{ListenFacts}
+use Rattle.daemon_words.specs.declared.host.Host.{Host}
 use Rattle.daemon_words.specs.DaemonWords.{Service, daemon_of}
 use Rattle.daemon.specs.declared.status.DaemonStatus.{DaemonStatus}
 use Rattle.daemon.specs.declared.status.DaemonStatus.TheVariants.{UsedUp, Stopped}
@@ -33,9 +34,9 @@ pub record TellsLogs (shares : ℕ) (old new : ListenFacts) (waited left : ℕ �
 -- Words give a store that serves connections alone, and that no image fills; they give it a part at least. Its contract holds, with one of these statuses. What its clients send are bytes, and no key
 -- begins with a line feed. Then they are served key by key, and none of its items is lost. Numbers of values would end at 62 bits.
 abbrev pub MemcachedInStore : Type 0
-MemcachedInStore = (processors : ℕ) (words : List (List ℕ)) (service : Service) (base : ℕ) (before after : FilesFacts) (old new : DaemonOutside) (status : DaemonStatus) (waited left : ℕ → Log)
-    → daemon_of processors words ≡ Some service → service.ports.fronts ≡ 0 → service.image ≡ None → service.options.mode ≡ Store → 1 ≤ service.options.partitions → base + service.options.wear < 2 ^ 62
-    → KeepsUp (daemon_of processors words) base before after old new status → IsCarriedOut status
+MemcachedInStore = (host : Host) (words : List (List ℕ)) (service : Service) (base : ℕ) (before after : FilesFacts) (old new : DaemonOutside) (status : DaemonStatus) (waited left : ℕ → Log)
+    → daemon_of host words ≡ Some service → service.ports.fronts ≡ 0 → service.image ≡ None → service.options.mode ≡ Store → 1 ≤ service.options.partitions → base + service.options.wear < 2 ^ 62
+    → KeepsUp (daemon_of host words) base before after old new status → IsCarriedOut status
     → TellsLogs service.streams.ports.fronts old.ports.listens new.ports.listens waited left
     → ((f c : ℕ) → f < service.streams.ports.fronts → AreBytes (received_of c (left f).entries) × NamesNoFeed (received_of c (left f).entries))
     → OnPorts (λ ports ports'.
