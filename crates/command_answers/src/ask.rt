@@ -77,14 +77,7 @@ fn is_to_go(is_refused: bool, style: &Style, ask: &Ask) -> bool
 
 // Notes what a write left of its partition, where one was made, and what it leaves for the next sweep.
 #[inline(always)]
-fn note_write(
-    tally: &mut Tally,
-    noted: &mut Noted,
-    partitions: u32,
-    ask: &Ask,
-    key: &[u8],
-    changed: &Changed,
-)
+fn note_write(tally: &mut Tally, noted: &mut Noted, partitions: u32, key: &[u8], changed: &Changed)
     ensures { tally.new ≡ noted_if partitions key.now changed.now.when changed.now.outcome changed.now.stamp tally.old }
 {
     if let Some(outcome) = changed.outcome {
@@ -92,10 +85,9 @@ fn note_write(
             .when
             .written
             .saturating_add(count_of_accepted(outcome));
-        let hash = key_hash(key);
-        let partition = partition_of(hash, partitions.max(1));
+        let partition = partition_of(key_hash(key), partitions.max(1));
         tally.note(partition, writes, changed.stamp);
-        noted.note(ask, hash, partition, outcome);
+        noted.note(partition, outcome);
     }
 }
 
@@ -142,7 +134,7 @@ pub fn answer_ask<F: Changes>(
     let says = order.says(changed.when, stored, changed.outcome);
     tally.count(counter_of(&asked.ask, &says));
     *is_refused = was_refused(changed.outcome);
-    note_write(tally, noted, partitions, &asked.ask, key, &changed);
+    note_write(tally, noted, partitions, key, &changed);
     put_said(out, style, is_last, key, &says)
 }
 
@@ -178,7 +170,7 @@ fn spoil<F: Changes>(
     let mut room = [0; KEY_ROOM];
     let key = asked.key.bytes(&mut room);
     let gone = front.change(second, key, &order, found, next);
-    note_write(tally, noted, partitions, &ask, key, &gone);
+    note_write(tally, noted, partitions, key, &gone);
 }
 
 /// Answers the last ask of a command as `answer_ask` does, behind so many answers, and says how many there are then. Where a set found no room, what is stored of its key is taken

@@ -147,7 +147,7 @@ fn sweep_by_one<
     let alloc = rt.alloc();
     let mut parts = parts;
     let hand = lend_hand::<J, P>(alloc, &mut parts, 0)?;
-    let locks = lock_parts::<J, P>(alloc, parts)?;
+    let locks = lock_parts::<J, P>(alloc, options, parts)?;
     let ended = AtomicBool::new(false);
     let mut front = front_of(rt, options, &locks, 0, hand, &ended);
     match options.mode {
