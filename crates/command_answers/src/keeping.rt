@@ -1,11 +1,14 @@
 //! Items of a cache that were read stay: they are written anew before the log is written over there.
 ghost use Rattle.std.specs.Prelude.{◌≡◌, ◌<◌, ◌≤◌, ◌+◌, ℕ};
+ghost use Rattle.mica_words.specs.Item.{KeyFits};
+ghost use Rattle.partition_model.specs.declared.options.Mode.TheVariants.{Cache};
 ghost use Rattle.command_answers.specs.Sweeps.{SweepsBy};
 
-use fronts::{Glances, Passed};
+use crate::noted::Noted;
+use fronts::{Changes, Glances, Passed};
 use partition_model::ItemBuf;
 
-/// A sweep ends its looks once it has written so many words anew, or as many as one item has.
+/// A sweep writes no more items anew once it has written so many words of them.
 pub const MOST_MOVED: u32 = 131_072;
 
 // How far a look goes, how many words it may still write anew, and whether it is over.
@@ -14,6 +17,28 @@ struct Look {
     end: u64,
     words: u32,
     is_over: bool,
+}
+
+impl Look {
+    // An item of so many words was written anew.
+    fn took(&mut self, words: u32) {
+        self.words = self.words.saturating_sub(words);
+        self.is_over = self.words == 0;
+    }
+}
+
+// Touches a key, in cache mode.
+fn touch_key<F: Changes>(front: &mut F, key: &[u8])
+    requires mode { (F.options front.old).mode ≡ Cache }
+    requires key { KeyFits key.now }
+    requires left { 0 < F.left front.old }
+    ensures swept { (base second : ℕ) → SweepsBy (F.options front.old) F.is_alone base second 1 (F.sessions front.old) (F.left front.old) (F.sessions front.new) (F.left front.new) }
+    ensures left { F.left front.old ≤ F.left front.new + 1 }
+    ensures options { F.options front.new ≡ F.options front.old }
+    ensures number { F.number front.new ≡ F.number front.old }
+    ensures stands { F.stands front.new ≡ F.stands front.old }
+{
+    front.touch(key);
 }
 
 // Moves the hand of a partition on, and touches the item that it came by, if that was read.
@@ -28,16 +53,15 @@ fn keep_item<F: Glances>(front: &mut F, partition: u32, look: &mut Look, key: &m
 {
     match front.pass_item(partition, look.end, key) {
         Passed::Read(words) => {
-            front.touch(key.value());
-            look.words = look.words.saturating_sub(words);
-            look.is_over = look.words == 0;
+            touch_key(front, key.value());
+            look.took(words);
         }
         Passed::Other => {}
         Passed::End => look.is_over = true,
     }
 }
 
-// Moves the hand of a partition on, by so many steps at most. Says how many it took.
+// Moves the hand of a partition on, by so many steps at most, and touches what was read, until so many words are written anew. Says how many steps it took.
 fn keep_in<F: Glances>(
     front: &mut F,
     partition: u32,
@@ -59,23 +83,23 @@ fn keep_in<F: Glances>(
         words: *words,
         is_over: *words == 0,
     };
-    let mut steps = 0;
-    while steps < most && !look.is_over {
+    let mut looked = 0;
+    while looked < most && !look.is_over {
         keep_item(front, partition, &mut look, key);
-        steps += 1;
+        looked += 1;
     }
     *words = look.words;
-    steps
+    looked
 }
 
-/// Moves the hands of the partitions on that were written, of which each has a bit, and touches what was read. It begins at another one each time. Says how many steps it
-/// took, no more than so many.
+/// Moves the hands on of the partitions that were written, and touches what was read. The first of them is another one each time. Says how many steps it took, no more than
+/// so many.
 pub fn keep_read<F: Glances>(
     front: &mut F,
     partitions: u32,
-    written: u64,
     most: u32,
-    turns: &mut u32,
+    noted: &mut Noted,
+    first: u32,
     key: &mut ItemBuf,
 ) -> u32
     requires partitions { partitions ≡ (F.options front.old).partitions }
@@ -87,18 +111,13 @@ pub fn keep_read<F: Glances>(
     ensures number { F.number front.new ≡ F.number front.old }
     ensures stands { F.stands front.new ≡ F.stands front.old }
 {
-    if written == 0 {
-        return 0;
-    }
-    *turns = turns.wrapping_add(1);
-    let first = *turns;
-    let mut steps = 0;
+    let mut looked = 0;
     let mut words = MOST_MOVED;
-    for number in 0..partitions {
-        let partition = first.wrapping_add(number) % partitions;
-        if written >> (partition & 63) & 1 == 1 {
-            steps += keep_in(front, partition, most - steps, &mut words, key);
+    for at in 0..partitions {
+        let partition = first.wrapping_add(at) % partitions;
+        if noted.take_written(partition) {
+            looked += keep_in(front, partition, most - looked, &mut words, key);
         }
     }
-    steps
+    looked
 }

@@ -2,6 +2,11 @@
 
 use partition_model::Outcome;
 
+// The bit of a partition.
+fn bit_of(partition: u32) -> u64 {
+    1 << (partition % 64)
+}
+
 /// What commands leave for the sweep behind them. No answer rests on it.
 #[derive(Drop)]
 pub struct Noted {
@@ -24,7 +29,7 @@ impl Noted {
     pub fn note(&mut self, partition: u32, outcome: Outcome) {
         match outcome {
             Outcome::FullBlock | Outcome::FullSpare => self.full = Some(partition),
-            _ => self.written |= 1 << (partition & 63),
+            _ => self.written |= bit_of(partition),
         }
     }
 
@@ -33,10 +38,11 @@ impl Noted {
         self.full.take()
     }
 
-    /// The partitions that were written since this was asked last, a bit for each.
-    pub fn take_written(&mut self) -> u64 {
-        let written = self.written;
-        self.written = 0;
-        written
+    /// Whether a partition was written since this was asked last of it.
+    pub fn take_written(&mut self, partition: u32) -> bool {
+        let bit = bit_of(partition);
+        let was_written = self.written & bit != 0;
+        self.written &= !bit;
+        was_written
     }
 }

@@ -28,7 +28,6 @@ pub struct Sweeper {
     // How often the end of its partition was passed since it turned to it.
     laps: u32,
     pace: Pace,
-    // How often it went over the partitions that were written.
     turns: u32,
     // When its partition was looked at under a hold last, and for how many more items that is taken for now.
     when: Option<When>,
@@ -102,6 +101,12 @@ impl Sweeper {
             self.turn_to(partition);
             self.pace.hurry();
         }
+    }
+
+    // How often it went over the partitions that were written.
+    fn next_turn(&mut self) -> u32 {
+        self.turns = self.turns.wrapping_add(1);
+        self.turns
     }
 
     // Whether the item that was glanced at seems to be there.
@@ -246,9 +251,15 @@ pub fn sweep<F: Glances>(
     ensures stands { F.stands front.new ≡ F.stands front.old }
 {
     let most = u32::try_from(most).unwrap_or(u32::MAX).min(MOST_SWEPT);
-    let partitions = numbering.partitions;
-    let Sweeper { turns, key, .. } = sweeper;
-    let kept = keep_read(front, partitions, noted.take_written(), most, turns, key);
+    let first = sweeper.next_turn();
+    let kept = keep_read(
+        front,
+        numbering.partitions,
+        most,
+        noted,
+        first,
+        &mut sweeper.key,
+    );
     sweeper.want_room(noted.take_full());
     let places = sweeper.pace.places(second).min(most - kept);
     let looked = sweep_places(front, second, numbering, places, sweeper);

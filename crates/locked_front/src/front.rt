@@ -13,7 +13,7 @@ use crate::flush_keys::make_key;
 use crate::locks::PartitionLocks;
 use crate::owned::ServerPlan;
 use crate::part::LockedPart;
-use crate::passing::{count_read, pass_item};
+use crate::passing::{count_if_read, pass_item};
 use fronts::{
     Changed, Changes, CountsWrites, Decide, Flush, Front, Glances, Glimpse, Passed, seat_loads,
 };
@@ -222,9 +222,7 @@ impl<'a, J: ServerPlan, P: LendPartition<Reader = ReaderSeat, Note = Note> + Dro
         );
         self.left -= count_of(changed.outcome);
         tell_worn(self.ended, changed.outcome);
-        if decide.is_read() && matches!(changed.found, Some(Answer::Hit)) {
-            count_read(self.locks.reads_of(number), hash);
-        }
+        count_if_read(self.locks.reads_of(number), hash, decide, &changed);
         changed
     }
 

@@ -3,7 +3,7 @@ ghost use Rattle.std.specs.Prelude.{◌≡◌, ◌+◌, ◌<◌, length, IfOk, O
 ghost use Rattle.locked_front.specs.Locks.{AreInOrder};
 
 use crate::owned::{OwnedPartition, ServerPlan};
-use crate::reads::{Reads, reads_of};
+use crate::reads::{Reads, reads_of_all};
 use numbered_lock::NumberedLock;
 use outside::NoMemory;
 use partition_model::Options;
@@ -48,7 +48,7 @@ impl<J: ServerPlan, P: LendPartition<Reader = ReaderSeat, Note = Note> + Drop> P
     {
         Ok(PartitionLocks {
             locks: Vec::with_capacity(alloc, options.partitions as usize)?,
-            reads: reads_of(alloc, options)?,
+            reads: reads_of_all(alloc, options)?,
         })
     }
 

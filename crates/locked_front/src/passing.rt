@@ -6,13 +6,20 @@ use crate::reads::Reads;
 use fronts::Passed;
 use fronts::seat_loads::{LogItem, is_named, item_at, oldest_word};
 use mica_words::OFFSET_BITS;
-use partition_model::ItemBuf;
+use partition_model::{Answer, ItemBuf};
 use partition_table::ReaderSeat;
 
-/// Counts a read of an item with this hash, where reads are counted.
-pub(crate) fn count_read(reads: Option<&Reads>, hash: u64) {
+/// Counts a read of an item with this hash, if the decision reads and found one. None are counted in store mode.
+pub(crate) fn count_if_read<D: Decide>(
+    reads: Option<&Reads>,
+    hash: u64,
+    decide: &D,
+    changed: &Changed,
+) {
     if let Some(reads) = reads {
-        reads.count(hash);
+        if decide.is_read() && matches!(changed.found, Some(Answer::Hit)) {
+            reads.count(hash);
+        }
     }
 }
 

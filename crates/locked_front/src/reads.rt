@@ -1,5 +1,5 @@
 //! How often the items of a cache were read, and the hands that go over its logs. No answer rests on them.
-ghost use Rattle.std.specs.Prelude.{◌≤◌, ◌<◌};
+ghost use Rattle.std.specs.Prelude.{◌<◌};
 
 use mica_words::{bucket_of, tag_of};
 use outside::NoMemory;
@@ -99,7 +99,7 @@ impl Reads {
 }
 
 /// Those of all partitions, in order: none in store mode.
-pub(crate) fn reads_of(alloc: Global, options: &Options) -> Result<Vec<Reads>, NoMemory> {
+pub(crate) fn reads_of_all(alloc: Global, options: &Options) -> Result<Vec<Reads>, NoMemory> {
     let partitions = match options.mode {
         Mode::Cache => options.partitions,
         Mode::Store => 0,
