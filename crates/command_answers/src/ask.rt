@@ -85,7 +85,8 @@ fn note_write(tally: &mut Tally, noted: &mut Noted, partitions: u32, key: &[u8],
             .when
             .written
             .saturating_add(count_of_accepted(outcome));
-        let partition = partition_of(key_hash(key), partitions.max(1));
+        let hash = key_hash(key);
+        let partition = partition_of(hash, partitions.max(1));
         tally.note(partition, writes, changed.stamp);
         noted.note(partition, outcome);
     }
