@@ -3,8 +3,8 @@ ghost use Rattle.std.specs.Prelude.{◌≡◌, ℕ};
 ghost use Rattle.mica_words.specs.Item.{KeyFits};
 
 use crate::reads::Reads;
-use fronts::Passed;
 use fronts::seat_loads::{LogItem, is_named, item_at, oldest_word};
+use fronts::{Changed, Decide, Passed};
 use mica_words::OFFSET_BITS;
 use partition_model::{Answer, ItemBuf};
 use partition_table::ReaderSeat;
