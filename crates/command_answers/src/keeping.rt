@@ -92,6 +92,32 @@ fn keep_in<F: Glances>(
     looked
 }
 
+// The same, where the partition was written.
+#[tactic(auto, using(crate::proofs::Sweeping::none_swept))]
+fn keep_written<F: Glances>(
+    front: &mut F,
+    partition: u32,
+    most: u32,
+    words: &mut u32,
+    noted: &mut Noted,
+    key: &mut ItemBuf,
+) -> u32
+    requires partition { partition < (F.options front.old).partitions }
+    requires left { most ≤ F.left front.old }
+    ensures swept { (base second : ℕ) → SweepsBy (F.options front.old) F.is_alone base second result (F.sessions front.old) (F.left front.old) (F.sessions front.new) (F.left front.new) }
+    ensures few { result ≤ most }
+    ensures left { F.left front.old ≤ F.left front.new + result }
+    ensures options { F.options front.new ≡ F.options front.old }
+    ensures number { F.number front.new ≡ F.number front.old }
+    ensures stands { F.stands front.new ≡ F.stands front.old }
+{
+    if noted.take_written(partition) {
+        keep_in(front, partition, most, words, key)
+    } else {
+        0
+    }
+}
+
 /// Moves the hands on of the partitions that were written, and touches what was read. The first of them is another one each time. Says how many steps it took, no more than
 /// so many.
 pub fn keep_read<F: Glances>(
@@ -115,9 +141,7 @@ pub fn keep_read<F: Glances>(
     let mut words = MOST_MOVED;
     for at in 0..partitions {
         let partition = first.wrapping_add(at) % partitions;
-        if noted.take_written(partition) {
-            looked += keep_in(front, partition, most - looked, &mut words, key);
-        }
+        looked += keep_written(front, partition, most - looked, &mut words, noted, key);
     }
     looked
 }
