@@ -1,5 +1,5 @@
 //! The hand that goes over the log of a cache, and what it passes.
-ghost use Rattle.std.specs.Prelude.{◌≡◌, ℕ};
+ghost use Rattle.std.specs.Prelude.{◌≡◌, ◌<◌, ◌^◌, ℕ};
 ghost use Rattle.mica_words.specs.Item.{KeyFits};
 
 use crate::reads::Reads;
