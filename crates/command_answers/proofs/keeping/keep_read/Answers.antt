@@ -19,12 +19,12 @@ pub loop-at-preserved : goal.loop-at-preserved
 loop-at-preserved g c =
     let F = g.F.Front in
     let inv = c.loop-at.invariant in
-    let one = c.keep_written.ensures in
+    let one = c.keep_written-looked.ensures in
     let left = one.left in
     let few = one.few in record {
       swept = λ base second.
           swept_then (F.options c.args.front.now) F.is_alone base second (omega arith) (inv.swept base second)
-          (subst (λ (o : Options). SweepsBy o F.is_alone base second c.keep_written.result (F.sessions c.loop-at.front) (F.left c.loop-at.front) (F.sessions c.keep_written.new.front) (F.left c.keep_written.new.front)) inv.options (one.swept base second));
+          (subst (λ (o : Options). SweepsBy o F.is_alone base second c.keep_written-looked.result (F.sessions c.loop-at.front) (F.left c.loop-at.front) (F.sessions c.keep_written-looked.new.front) (F.left c.keep_written-looked.new.front)) inv.options (one.swept base second));
       few = omega (arith, few, inv.few);
       left = omega (arith, left, inv.left);
       options = one.options ∙ inv.options;
