@@ -15,7 +15,7 @@ def constant(name):
     return int(re.search(rf"const {name}: u64 = ([\d_]+);", SOURCE)[1])
 
 
-HEAP_BYTES, LISTS_BYTES, SPARE_BYTES = map(constant, ("HEAP_BYTES", "LISTS_BYTES", "SPARE_BYTES"))
+HEAP_BYTES, LISTS_BYTES, SPARE_BYTES, READS_BYTES = map(constant, ("HEAP_BYTES", "LISTS_BYTES", "SPARE_BYTES", "READS_BYTES"))
 FEW_PARTITIONS_MEMORY, PARTITION_MEMORY = map(constant, ("FEW_PARTITIONS_MEMORY", "PARTITION_MEMORY"))
 PROGRAM_BYTES, ITEM_WORDS, INDEX_BYTES = map(constant, ("PROGRAM_BYTES", "ITEM_WORDS", "INDEX_BYTES"))
 MOST_WORDS = 1 << 30
@@ -43,7 +43,8 @@ def sizes_for(mode, memory):
     share = (memory - PROGRAM_BYTES) // partitions
     buckets = 1 << max(0, -(-items_for(mode, share) // 10) - 1).bit_length()
     spares = buckets // 8 if mode == "store" else 0
-    empty = 8 * (STAMP_WORDS + BUCKET_WORDS * buckets + SPARE_WORDS * spares) + (LISTS_BYTES + SPARE_BYTES * spares) * (mode == "store")
+    beside = LISTS_BYTES + SPARE_BYTES * spares if mode == "store" else READS_BYTES * buckets
+    empty = 8 * (STAMP_WORDS + BUCKET_WORDS * buckets + SPARE_WORDS * spares) + beside
     words = min(MOST_WORDS, (share - empty) // word_bytes(mode))
     return {"partitions": partitions, "buckets": buckets, "spares": spares, "words": words}
 

@@ -82,7 +82,6 @@ fn note_write(
     noted: &mut Noted,
     hashing: Hashing,
     partitions: u32,
-    ask: &Ask,
     key: &[u8],
     changed: &Changed,
 )
@@ -96,7 +95,7 @@ fn note_write(
         let hash = hashing.key_hash(key);
         let partition = partition_of(hash, partitions.max(1));
         tally.note(partition, writes, changed.stamp);
-        noted.note(ask, hash, partition, outcome);
+        noted.note(partition, outcome);
     }
 }
 
@@ -146,7 +145,7 @@ pub fn answer_ask<F: Changes>(
     tally.count(counter_beside(&says, &at, stored));
     *is_refused = was_refused(changed.outcome);
     let hashing = front.hashing();
-    note_write(tally, noted, hashing, partitions, &asked.ask, key, &changed);
+    note_write(tally, noted, hashing, partitions, key, &changed);
     put_said(out, style, is_last, key, &says)
 }
 
@@ -183,7 +182,7 @@ fn spoil<F: Changes>(
     let key = asked.key.bytes(&mut room);
     let gone = front.change(second, key, &order, found, next);
     let hashing = front.hashing();
-    note_write(tally, noted, hashing, partitions, &ask, key, &gone);
+    note_write(tally, noted, hashing, partitions, key, &gone);
 }
 
 /// Answers the last ask of a command as `answer_ask` does, behind so many answers, and says how many there are then. Where a set found no room, what is stored of its key is taken

@@ -1,21 +1,19 @@
 //! What commands leave for the sweep behind them.
-ghost use Rattle.std.specs.Prelude.{◌≤◌, length};
-ghost use Rattle.command_answers.specs.declared.noted.TheConstants.{MOST_USED};
 
-use memcached_commands::Ask;
 use partition_model::Outcome;
 
-/// So many keys are noted between two sweeps at most.
-pub const MOST_USED: usize = 64;
+// The bit of a partition.
+fn bit_of(partition: u32) -> u64 {
+    1 << (partition % 64)
+}
 
 /// What commands leave for the sweep behind them. No answer rests on it.
 #[derive(Drop)]
 pub struct Noted {
     // The partition where a write found no room last.
     full: Option<u32>,
-    // The hashes of keys that were touched or counted, so many of them.
-    used: [u64; MOST_USED],
-    count: usize,
+    // The partitions that were written, a bit for each.
+    written: u64,
 }
 
 impl Noted {
@@ -23,24 +21,15 @@ impl Noted {
     pub fn new() -> Noted {
         Noted {
             full: None,
-            used: [0; MOST_USED],
-            count: 0,
+            written: 0,
         }
     }
 
-    /// Notes what came of an ask of a key with this hash.
-    pub fn note(&mut self, ask: &Ask, hash: u64, partition: u32, outcome: Outcome) {
+    /// Notes what came of a write in a partition.
+    pub fn note(&mut self, partition: u32, outcome: Outcome) {
         match outcome {
             Outcome::FullBlock | Outcome::FullSpare => self.full = Some(partition),
-            Outcome::Stored if uses(ask) => self.note_used(hash),
-            _ => {}
-        }
-    }
-
-    fn note_used(&mut self, hash: u64) {
-        if let Some(place) = self.used.get_mut(self.count) {
-            *place = hash;
-            self.count += 1;
+            _ => self.written |= bit_of(partition),
         }
     }
 
@@ -49,24 +38,11 @@ impl Noted {
         self.full.take()
     }
 
-    /// The hashes of keys that were touched or counted since.
-    pub fn used(&self) -> &[u64]
-        ensures { length result.now ≤ MOST_USED }
-    {
-        &self.used[..self.count.min(MOST_USED)]
-    }
-
-    /// Forgets these hashes.
-    pub fn forget_used(&mut self) {
-        self.count = 0;
-    }
-}
-
-// Whether a command uses an item without making a new one.
-fn uses(ask: &Ask) -> bool {
-    match ask {
-        Ask::GetTouch(_) | Ask::Count { .. } | Ask::Touch(_) => true,
-        Ask::Leased(lease) => lease.touch.is_some(),
-        _ => false,
+    /// Whether a partition was written since this was asked last of it.
+    pub fn take_written(&mut self, partition: u32) -> bool {
+        let bit = bit_of(partition);
+        let was_written = self.written & bit != 0;
+        self.written &= !bit;
+        was_written
     }
 }

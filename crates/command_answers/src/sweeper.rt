@@ -2,10 +2,10 @@
 ghost use Rattle.std.specs.Prelude.{◌≡◌, ◌<◌, ◌≤◌, ◌+◌, ℕ, false};
 ghost use Rattle.mica_words.specs.Item.{KeyFits};
 ghost use Rattle.mica_words.specs.Mark.{is_mark};
-ghost use Rattle.command_answers.specs.declared.noted.TheConstants.{MOST_USED};
 ghost use Rattle.command_answers.specs.Sweeps.{SweepsBy};
 
 use crate::answer::Numbering;
+use crate::keeping::keep_read;
 use crate::noted::Noted;
 use crate::pace::Pace;
 use fronts::{Changed, Changes, Glances, Glimpse, When};
@@ -14,8 +14,8 @@ use outside::NoMemory;
 use partition_model::ItemBuf;
 use std::alloc::Global;
 
-/// The most answers that one sweep gives: a touch of each key that was noted, and a look at each place.
-pub const MOST_SWEPT: u32 = 4_160;
+/// The most answers that one sweep gives: it takes so many steps at most, each of which is a look at an item or at a place.
+pub const MOST_SWEPT: u32 = 4_096;
 
 /// For so many items a look under a hold tells how late it is in their partition.
 const FRESH: u32 = 64;
@@ -29,6 +29,7 @@ pub struct Sweeper {
     // How often the end of its partition was passed since it turned to it.
     laps: u32,
     pace: Pace,
+    turns: u32,
     // When its partition was looked at under a hold last, and for how many more items that is taken for now.
     when: Option<When>,
     fresh: u32,
@@ -46,6 +47,7 @@ impl Sweeper {
             places: Vec::from_elem(alloc, 0, partitions as usize)?,
             laps: 0,
             pace: Pace::new(),
+            turns: 0,
             when: None,
             fresh: 0,
             key: ItemBuf::new(alloc)?,
@@ -100,6 +102,12 @@ impl Sweeper {
             self.turn_to(partition);
             self.pace.hurry();
         }
+    }
+
+    // How often it went over the partitions that were written.
+    fn next_turn(&mut self) -> u32 {
+        self.turns = self.turns.wrapping_add(1);
+        self.turns
     }
 
     // Whether the item that was glanced at seems to be there.
@@ -225,43 +233,8 @@ fn sweep_places<F: Glances>(
     looked
 }
 
-// Touches a key with this hash, if its item is old, and if it may give a write. Says how many it gave.
-fn touch_old<F: Glances>(front: &mut F, most: u64, hash: u64, key: &mut ItemBuf) -> u64
-    requires left { most ≤ F.left front.old }
-    ensures swept { (base second : ℕ) → SweepsBy (F.options front.old) F.is_alone base second 1 (F.sessions front.old) (F.left front.old) (F.sessions front.new) (F.left front.new) }
-    ensures few { result ≤ most }
-    ensures left { F.left front.old ≤ F.left front.new + result }
-    ensures options { F.options front.new ≡ F.options front.old }
-    ensures number { F.number front.new ≡ F.number front.old }
-    ensures stands { F.stands front.new ≡ F.stands front.old }
-{
-    if most == 0 || !front.glance_old(hash, key) {
-        return 0;
-    }
-    front.touch(key.value());
-    1
-}
-
-// Touches keys that were noted whose items are old, so many at most, and notes none any more. Says how many it touched.
-fn touch_used<F: Glances>(front: &mut F, most: u64, noted: &mut Noted, key: &mut ItemBuf) -> u64
-    requires left { most ≤ F.left front.old }
-    ensures swept { (base second : ℕ) → SweepsBy (F.options front.old) F.is_alone base second MOST_USED (F.sessions front.old) (F.left front.old) (F.sessions front.new) (F.left front.new) }
-    ensures few { result ≤ most }
-    ensures left { F.left front.old ≤ F.left front.new + result }
-    ensures options { F.options front.new ≡ F.options front.old }
-    ensures number { F.number front.new ≡ F.number front.old }
-    ensures stands { F.stands front.new ≡ F.stands front.old }
-{
-    let mut touched = 0;
-    for hash in noted.used() {
-        touched += touch_old(front, most - touched, *hash, key);
-    }
-    noted.forget_used();
-    touched
-}
-
-/// Touches what was used and is old, and looks at the next places of an index, as far as so many writes reach. Takes away what is over there. Where a write found
-/// no room, it looks far in that partition. Says how many writes it may have made.
+/// Touches what was read and will be written over soon, in the partitions that were written, and looks at the next places of an index, as far as so many writes reach.
+/// Takes away what is over there. Where a write found no room, it looks far in that partition. Says how many writes it may have made.
 pub fn sweep<F: Glances>(
     front: &mut F,
     second: u64,
@@ -279,10 +252,18 @@ pub fn sweep<F: Glances>(
     ensures number { F.number front.new ≡ F.number front.old }
     ensures stands { F.stands front.new ≡ F.stands front.old }
 {
-    let touched = touch_used(front, most, noted, &mut sweeper.key);
+    let most = u32::try_from(most).unwrap_or(u32::MAX).min(MOST_SWEPT);
+    let first = sweeper.next_turn();
+    let kept = keep_read(
+        front,
+        numbering.partitions,
+        most,
+        noted,
+        first,
+        &mut sweeper.key,
+    );
     sweeper.want_room(noted.take_full());
-    let places = sweeper.pace.places(second);
-    let left = u32::try_from(most - touched).unwrap_or(u32::MAX);
-    let looked = sweep_places(front, second, numbering, places.min(left), sweeper);
-    touched + u64::from(looked)
+    let places = sweeper.pace.places(second).min(most - kept);
+    let looked = sweep_places(front, second, numbering, places, sweeper);
+    u64::from(kept + looked)
 }

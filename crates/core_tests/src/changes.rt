@@ -265,7 +265,7 @@ fn change_by_two<
     let mut parts = parts;
     let first = lend_hand::<J, P>(alloc, &mut parts, 0)?;
     let second = lend_hand::<J, P>(alloc, &mut parts, 1)?;
-    let locks = lock_parts::<J, P>(alloc, parts)?;
+    let locks = lock_parts::<J, P>(alloc, options, parts)?;
     let ended = AtomicBool::new(false);
     let mut first = front_of(rt, options, &locks, 0, first, &ended);
     let second = front_of(rt, options, &locks, 1, second, &ended);

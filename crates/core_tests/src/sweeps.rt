@@ -1,4 +1,4 @@
-//! Items that are not there any more give their room back, and in a cache items that are used stay.
+//! Items that are not there any more give their room back.
 ghost use Rattle.std.specs.Prelude.{◌≡◌, ◌+◌, ◌≤◌, length, map};
 ghost use Rattle.partition_model.specs.Options.{IsPossible};
 ghost use Rattle.partition_table.specs.Seats.{note_state, note_home};
@@ -7,15 +7,12 @@ ghost use Rattle.locked_server.specs.Opening.{ArePlanned, filled_view};
 
 use crate::changes::{SMALL, front_of};
 use any_partition::OnTable;
-use cache_partition::CachePartition;
 use command_answers::{Noted, Numbering, Sweeper, sweep};
 use fronts::{Front, Glances};
 use locked_front::ServerPlan;
 use locked_server::{FilledPart, lend_hand, lock_parts, open_parts};
-use memcached_commands::Ask;
-use memcached_text::Lifetime;
-use mica_words::{key_fits, key_hash, stored_fits, tail_of};
-use partition_model::{Answer, ItemBuf, Mode, Op, Options, Outcome};
+use mica_words::{key_fits, stored_fits};
+use partition_model::{Answer, ItemBuf, Op, Options, Outcome};
 use partition_table::{Note, OwnerSeat, ReaderSeat};
 use partition_words::LendPartition;
 use std::marker::Brand;
@@ -93,44 +90,6 @@ fn what_is_over_goes<R: Abort + AllocGlobal, F: Glances>(rt: &R, front: &mut F) 
     Ok(())
 }
 
-// A log of 1,024 words has 18 items of 55 words. The one that is touched behind each put of another is old, more than 512 words behind the tail, behind the 8th of these,
-// and again behind each 9th. So six times it was written anew: 68 items in all.
-fn what_is_used_stays<R: Abort + AllocGlobal, F: Glances>(rt: &R, front: &mut F) -> Result<(), Fail>
-    requires left { 20000 ≤ F.left front.old }
-    requires partitions { (F.options front.old).partitions ≡ 1 }
-{
-    let value = [0u8; 416];
-    let mut sweeper = Sweeper::new(rt.alloc(), 1)?;
-    let mut noted = Noted::new();
-    let numbering = Numbering {
-        partitions: 1,
-        base: 0,
-    };
-    assert!(rt; put(rt, front, b"u", &value)?.0 == Outcome::Stored);
-    assert!(rt; put(rt, front, b"l", &value)?.0 == Outcome::Stored);
-    let mut tail = 0;
-    for i in 0..60u8 {
-        let (outcome, stamp) = put(rt, front, &[128 + i], &value)?;
-        assert!(rt; outcome == Outcome::Stored);
-        tail = tail_of(stamp);
-        noted.note(
-            &Ask::Touch(Lifetime::Forever),
-            key_hash(b"u"),
-            0,
-            Outcome::Stored,
-        );
-        sweep(front, 0, numbering, 64, &mut noted, &mut sweeper);
-    }
-    assert!(rt; tail == 68 * 55);
-    let mut out = ItemBuf::new(rt.alloc())?;
-    assert!(rt; key_fits(b"u") && key_fits(b"l"));
-    let (used, _) = front.read(b"u", &mut out);
-    assert!(rt; used == Answer::Hit && out.value() == value.as_slice());
-    let (left, _) = front.read(b"l", &mut out);
-    assert!(rt; left == Answer::Miss);
-    Ok(())
-}
-
 // One front before one partition.
 fn sweep_by_one<
     J: ServerPlan + Send + Sync,
@@ -147,13 +106,10 @@ fn sweep_by_one<
     let alloc = rt.alloc();
     let mut parts = parts;
     let hand = lend_hand::<J, P>(alloc, &mut parts, 0)?;
-    let locks = lock_parts::<J, P>(alloc, parts)?;
+    let locks = lock_parts::<J, P>(alloc, options, parts)?;
     let ended = AtomicBool::new(false);
     let mut front = front_of(rt, options, &locks, 0, hand, &ended);
-    match options.mode {
-        Mode::Cache => what_is_used_stays(rt, &mut front),
-        Mode::Store => what_is_over_goes(rt, &mut front),
-    }
+    what_is_over_goes(rt, &mut front)
 }
 
 // Opens one empty partition of the options.
@@ -178,16 +134,4 @@ fn open_and_sweep<P: OnTable + LendPartition<Reader = ReaderSeat, Note = Note> +
 #[test]
 fn what_is_over_gives_its_room_back(rt: HostRuntime) -> Result<(), Fail> {
     open_and_sweep::<StorePartition<OwnerSeat>>(&rt, &SMALL)
-}
-
-const CACHE: Options = Options {
-    mode: Mode::Cache,
-    buckets: 64,
-    spares: 0,
-    ..SMALL
-};
-
-#[test]
-fn what_is_used_is_kept(rt: HostRuntime) -> Result<(), Fail> {
-    open_and_sweep::<CachePartition<OwnerSeat>>(&rt, &CACHE)
 }

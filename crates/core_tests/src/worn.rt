@@ -73,7 +73,7 @@ fn wear_by_one<
     let mut parts = parts;
     let ended = AtomicBool::new(false);
     let hand = lend_hand::<J, P>(alloc, &mut parts, 0)?;
-    let locks = lock_parts::<J, P>(alloc, parts)?;
+    let locks = lock_parts::<J, P>(alloc, options, parts)?;
     let mut front = front_of(rt, options, &locks, 0, hand, &ended);
     let mut room = Room::new(alloc)?;
     let first = write_by(rt, &mut front, Call::Write)?;

@@ -46,6 +46,11 @@ pub trait Decide {
         false
     }
 
+    /// Whether an item that it finds was read by it, so that a cache keeps that for longer.
+    fn is_read(&self) -> bool {
+        false
+    }
+
     /// What becomes of the value that was found, or of none.
     fn decide(&self, when: When, found: Option<&[u8]>, next: &mut ItemBuf) -> Change
         ensures { IsChange (becoming self.now when (option_copied found.entry)) result next.new };

@@ -18,5 +18,5 @@ pub use changing::{Changed, Changes, Decide, When};
 pub use counting::CountsWrites;
 pub use flushes::{FLUSH_LEN, Flush, Flushes, KeptFlushes, flush_in};
 pub use front::Front;
-pub use glancing::{Glances, Glimpse};
+pub use glancing::{Glances, Glimpse, Passed};
 pub use totals::{ServeFault, Totals};

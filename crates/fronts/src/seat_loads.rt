@@ -1,5 +1,5 @@
 //! Loads by a reader's seat outside its gets: ahead of them, so that what they will look at is at hand, and of what stands in an index.
-ghost use Rattle.std.specs.Prelude.{◌≡◌, ◌≤◌, ◌<◌, ◌^◌, true, false, length, IfSome};
+ghost use Rattle.std.specs.Prelude.{◌≡◌, ◌≤◌, ◌<◌, ◌^◌, false, length, IfSome};
 ghost use Rattle.mica_words.specs.declared.item.TheConstants.{MAX_KEY_LEN};
 ghost use Rattle.mica_words.specs.Item.{KeyFits};
 ghost use Rattle.mica_words.specs.Mark.{is_mark};
@@ -7,8 +7,8 @@ ghost use Rattle.partition_model.specs.declared.options.TheConstants.{MOST_PARTI
 
 use crate::glancing::Glimpse;
 use mica_words::{
-    MAX_KEY_LEN, SLOTS, bucket_of, entry_offset, entry_tag, header_key_len, header_value_len,
-    tag_of, tail_of,
+    MAX_KEY_LEN, SLOTS, bucket_of, entry_of as entry_word, entry_offset, entry_tag, header_key_len,
+    header_room, header_value_len, tag_of, tail_of,
 };
 use partition_model::{ItemBuf, Mode, Options};
 use partition_table::ReaderSeat;
@@ -123,24 +123,70 @@ pub fn glance(seat: &ReaderSeat, place: u64, key: &mut ItemBuf, head: &mut ItemB
     glance_at(seat, entry_offset(entry), key, head)
 }
 
-// Whether more than half of the log was written behind an item at the offset.
-fn is_old(words: u32, tail: u64, offset: u64) -> bool {
-    tail.saturating_sub(offset) > u64::from(words / 2)
+/// A look of a hand ends so far ahead of what a log writes over next: a part in so many of its words.
+const LEAD_PARTS: u32 = 32;
+
+/// The lead has room for four of the largest items that a datagram brings, where that is no more than a quarter of the log.
+const LEAST_LEAD: u32 = 4_232;
+
+// How far ahead of what is written over next a look of a hand ends, in a log of so many words.
+fn lead_of(words: u32) -> u32 {
+    (words / LEAD_PARTS).max(LEAST_LEAD.min(words / 4))
 }
 
-/// Loads the key of an item with this hash, if it is behind the half of a log whose stamp was this.
-pub fn glance_old(seat: &ReaderSeat, stamp: u64, hash: u64, key: &mut ItemBuf) -> bool
-    ensures key { result ≡ true → KeyFits key.new }
+// The tail of a log.
+fn tail_at(seat: &ReaderSeat) -> u64 {
+    tail_of(seat.peek(WordAt::Stamp))
+}
+
+/// The oldest word of a log that was not written over.
+pub fn oldest_word(seat: &ReaderSeat) -> u64 {
+    tail_at(seat).saturating_sub(u64::from(seat.shape().words))
+}
+
+/// Where a look of a hand ends that goes over a log.
+pub fn end_of_look(seat: &ReaderSeat) -> u64 {
+    let words = seat.shape().words;
+    let ahead = tail_at(seat).saturating_add(u64::from(lead_of(words)));
+    ahead.saturating_sub(u64::from(words))
+}
+
+/// An item of a log: its key's hash, and how many words it may use.
+#[derive(Clone, Copy)]
+pub struct LogItem {
+    pub hash: u64,
+    pub room: u32,
+}
+
+/// Loads the key of the item that begins at the offset, if one does: the word behind its header is the hash of its key, it ends before the tail, and it was not written
+/// over meanwhile.
+pub fn item_at(seat: &ReaderSeat, offset: u64, key: &mut ItemBuf) -> Option<LogItem>
+    requires offset { offset < 2 ^ 48 }
+    ensures key { IfSome result (λ _. KeyFits key.new) }
 {
-    let shape = seat.shape();
-    let bucket = bucket_of(hash, shape.buckets);
-    let (tag, tail) = (tag_of(hash), tail_of(stamp));
+    let header = load_key(seat, offset, key)?;
+    let item = LogItem {
+        hash: seat.shape().hashing.key_hash(key.value()),
+        room: header_room(header),
+    };
+    let end = offset + u64::from(item.room);
+    let is_whole = seat.peek(WordAt::Item(offset + 1)) == item.hash && end <= tail_at(seat);
+    if is_whole && item.room > 0 && oldest_word(seat) <= offset {
+        Some(item)
+    } else {
+        None
+    }
+}
+
+/// Whether an entry of this hash names the offset.
+pub fn is_named(seat: &ReaderSeat, hash: u64, offset: u64) -> bool
+    requires offset { offset < 2 ^ 48 }
+{
+    let bucket = bucket_of(hash, seat.shape().buckets);
+    let entry = entry_word(tag_of(hash), offset);
     for slot in 0..SLOTS {
-        let entry = seat.peek(WordAt::Entry(bucket, slot));
-        let offset = entry_offset(entry);
-        if entry != 0 && entry_tag(entry) == tag && is_old(shape.words, tail, offset) {
-            let header = load_key(seat, offset, key);
-            return header.is_some() && shape.hashing.key_hash(key.value()) == hash;
+        if seat.peek(WordAt::Entry(bucket, slot)) == entry {
+            return true;
         }
     }
     false

@@ -13,7 +13,10 @@ use crate::locks::PartitionLocks;
 use crate::marks::make_mark;
 use crate::owned::ServerPlan;
 use crate::part::LockedPart;
-use fronts::{Changed, Changes, CountsWrites, Decide, Flush, Front, Glances, Glimpse, seat_loads};
+use crate::passing::{count_if_read, pass_item};
+use fronts::{
+    Changed, Changes, CountsWrites, Decide, Flush, Front, Glances, Glimpse, Passed, seat_loads,
+};
 use mica_words::{Hashing, partition_of};
 use outside::NoMemory;
 use partition_model::{Answer, ItemBuf, Mode, Op, Options, Outcome};
@@ -222,6 +225,7 @@ impl<'a, J: ServerPlan, P: LendPartition<Reader = ReaderSeat, Note = Note> + Dro
         );
         self.left -= count_of(changed.outcome);
         tell_worn(self.ended, changed.outcome);
+        count_if_read(self.locks.reads_of(number), hash, decide, &changed);
         changed
     }
 
@@ -251,13 +255,15 @@ impl<'a, J: ServerPlan, P: LendPartition<Reader = ReaderSeat, Note = Note> + Dro
         seat_loads::glance(&self.parts[partition as usize].seat, place, key, head)
     }
 
-    fn glance_old(&self, hash: u64, key: &mut ItemBuf) -> bool {
+    fn end_of_look(&self, partition: u32) -> u64 {
+        seat_loads::end_of_look(&self.parts[partition as usize].seat)
+    }
+
+    fn pass_item(&self, partition: u32, end: u64, key: &mut ItemBuf) -> Passed {
+        let reads = self.locks.reads_of(partition);
         match self.options.mode {
-            Mode::Cache => {
-                let part = &self.parts[partition_of(hash, self.options.partitions) as usize];
-                seat_loads::glance_old(&part.seat, part.newest, hash, key)
-            }
-            Mode::Store => false,
+            Mode::Cache => pass_item(&self.parts[partition as usize].seat, reads, end, key),
+            Mode::Store => Passed::End,
         }
     }
 }

@@ -13,6 +13,8 @@ mod locks;
 mod marks;
 mod owned;
 mod part;
+mod passing;
+mod reads;
 mod returned;
 
 pub use counts::{HistoryCounts, Learned};
@@ -21,4 +23,5 @@ pub use front::LockedFront;
 pub use locks::{PartitionLock, PartitionLocks};
 pub use owned::{OwnedPartition, ServerPlan, Step, Written};
 pub use part::LockedPart;
+pub use reads::Reads;
 pub use returned::Returned;

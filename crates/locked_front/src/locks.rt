@@ -3,8 +3,10 @@ ghost use Rattle.std.specs.Prelude.{◌≡◌, ◌+◌, ◌<◌, length, IfOk, O
 ghost use Rattle.locked_front.specs.Locks.{AreInOrder};
 
 use crate::owned::{OwnedPartition, ServerPlan};
+use crate::reads::{Reads, reads_of_all};
 use numbered_lock::NumberedLock;
 use outside::NoMemory;
+use partition_model::Options;
 use partition_table::{Note, ReaderSeat};
 use partition_words::LendPartition;
 use std::alloc::Global;
@@ -20,6 +22,8 @@ pub struct PartitionLocks<
     P: LendPartition<Reader = ReaderSeat, Note = Note> + Drop,
 > {
     locks: Vec<PartitionLock<J, P>>,
+    // What was read of each, in cache mode.
+    reads: Vec<Reads>,
 }
 
 impl<J: ServerPlan, P: LendPartition<Reader = ReaderSeat, Note = Note> + Drop> Model
@@ -38,12 +42,13 @@ impl<J: ServerPlan, P: LendPartition<Reader = ReaderSeat, Note = Note> + Drop> P
     J,
     P,
 > {
-    /// None yet, with room for so many.
-    pub fn new(alloc: Global, many: usize) -> Result<PartitionLocks<J, P>, NoMemory>
+    /// None yet, with room for those of these options.
+    pub fn new(alloc: Global, options: &Options) -> Result<PartitionLocks<J, P>, NoMemory>
         ensures { IfOk result (λ locks. locks ≡ 0) }
     {
         Ok(PartitionLocks {
-            locks: Vec::with_capacity(alloc, many)?,
+            locks: Vec::with_capacity(alloc, options.partitions as usize)?,
+            reads: reads_of_all(alloc, options)?,
         })
     }
 
@@ -64,6 +69,11 @@ impl<J: ServerPlan, P: LendPartition<Reader = ReaderSeat, Note = Note> + Drop> P
         ensures { result.now.number ≡ number }
     {
         &self.locks[number as usize]
+    }
+
+    /// What was read of the partition with this number. None in store mode.
+    pub fn reads_of(&self, number: u32) -> Option<&Reads> {
+        self.reads.get(number as usize)
     }
 
     /// All of them, in order.

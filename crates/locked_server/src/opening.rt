@@ -190,6 +190,7 @@ pub(crate) fn lend_hands<J: ServerPlan, P: LendPartition<Reader = ReaderSeat, No
 /// Each partition under its lock.
 pub fn lock_parts<J: ServerPlan, P: LendPartition<Reader = ReaderSeat, Note = Note> + Drop>(
     alloc: Global,
+    options: &Options,
     parts: Vec<FilledPart<P>>,
 ) -> Result<PartitionLocks<J, P>, NoMemory>
     requires notes { NotesAre P.noted P.note_home note_state note_home }
@@ -197,7 +198,7 @@ pub fn lock_parts<J: ServerPlan, P: LendPartition<Reader = ReaderSeat, Note = No
     requires few { J.plan.options.partitions ≤ MOST_PARTITIONS }
     ensures { IfOk result (λ locks. locks ≡ length parts.items) }
 {
-    let mut locks = PartitionLocks::new(alloc, parts.len())?;
+    let mut locks = PartitionLocks::new(alloc, options)?;
     let mut number = 0;
     for filled in parts {
         let FilledPart {

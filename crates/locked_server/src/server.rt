@@ -129,7 +129,7 @@ impl<
         let room = Room::new(alloc, streams as usize, fronts as usize, parts.len())?;
         let stream_hands = lend_hands::<J, P>(alloc, &mut parts, 0, streams)?;
         let hands = lend_hands::<J, P>(alloc, &mut parts, streams, fronts)?;
-        let locks = lock_parts(alloc, parts)?;
+        let locks = lock_parts(alloc, &service.options, parts)?;
         Ok(LockedServer {
             locks,
             stream_hands,

@@ -95,6 +95,14 @@ impl<'a> CommandOrder<'a> {
     }
 }
 
+// Whether it reads an item, and stores no new value that a client sent.
+fn reads(ask: &Ask) -> bool {
+    match ask {
+        Ask::Get | Ask::GetTouch(_) | Ask::Leased(_) | Ask::Count { .. } | Ask::Touch(_) => true,
+        _ => false,
+    }
+}
+
 impl<'a> Decide for CommandOrder<'a> {
     ghost becoming = { becoming_by };
 
@@ -107,6 +115,10 @@ impl<'a> Decide for CommandOrder<'a> {
     #[tactic(auto, using(crate::proofs::Becomings::becomes_nothing))]
     fn only_gets(&self) -> bool {
         only_gets(self.ask)
+    }
+
+    fn is_read(&self) -> bool {
+        reads(self.ask)
     }
 
     #[tactic(auto, using(crate::proofs::Becomings::same_change))]

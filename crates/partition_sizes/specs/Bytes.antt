@@ -6,9 +6,9 @@ use Rattle.partition_model.specs.declared.options.Options.{Options}
 use Rattle.partition_words.specs.declared.shape.Shape.{Shape}
 use Rattle.partition_words.specs.Shape.{shape_of}
 use Rattle.partition_words.specs.Layout.{word_count}
-use Rattle.partition_sizes.specs.declared.bytes.TheConstants.{HEAP_BYTES, LISTS_BYTES, SPARE_BYTES}
+use Rattle.partition_sizes.specs.declared.bytes.TheConstants.{HEAP_BYTES, LISTS_BYTES, SPARE_BYTES, READS_BYTES}
 use Rattle.partition_sizes.specs.declared.bytes.Row.{Row}
-use Rattle.partition_sizes.specs.declared.bytes.Row.TheVariants.{Table, HeapWords, HeapLists, Spares}
+use Rattle.partition_sizes.specs.declared.bytes.Row.TheVariants.{Table, HeapWords, HeapLists, Spares, Reads}
 
 -- of a table, whose words have eight bytes
 abbrev pub table_bytes : Shape → ℕ
@@ -20,10 +20,11 @@ row_bytes shape Table = table_bytes shape
 row_bytes shape HeapWords = HEAP_BYTES * shape.words
 row_bytes shape HeapLists = LISTS_BYTES
 row_bytes shape Spares = SPARE_BYTES * shape.spares
+row_bytes shape Reads = READS_BYTES * shape.buckets
 
--- the rows of a partition: a store has a heap and spares beside its table
+-- the rows of a partition: a cache has counts of reads beside its table, and a store a heap and spares
 abbrev pub rows_of : Mode → List Row
-rows_of Cache = Table ∷ []
+rows_of Cache = Table ∷ Reads ∷ []
 rows_of Store = Table ∷ HeapWords ∷ HeapLists ∷ Spares ∷ []
 
 -- of a partition: of all its rows

@@ -17,6 +17,9 @@ pub const LISTS_BYTES: u64 = 13_968;
 /// The bytes that an index has for each of its spares.
 pub const SPARE_BYTES: u64 = 4;
 
+/// The bytes that a cache has for each bucket beside its table: counts of reads.
+pub const READS_BYTES: u64 = 16;
+
 /// A row of a partition in memory.
 #[derive(Clone, Copy)]
 pub enum Row {
@@ -28,9 +31,11 @@ pub enum Row {
     HeapLists,
     /// What an index has beside each spare.
     Spares,
+    /// The counts of reads.
+    Reads,
 }
 
-static CACHE_ROWS: [Row; 1] = [Row::Table];
+static CACHE_ROWS: [Row; 2] = [Row::Table, Row::Reads];
 
 static STORE_ROWS: [Row; 4] = [Row::Table, Row::HeapWords, Row::HeapLists, Row::Spares];
 
@@ -61,6 +66,7 @@ fn row_bytes(shape: Shape, row: Row) -> u64
         Row::HeapWords => HEAP_BYTES * u64::from(shape.words),
         Row::HeapLists => LISTS_BYTES,
         Row::Spares => SPARE_BYTES * u64::from(shape.spares),
+        Row::Reads => READS_BYTES * u64::from(shape.buckets),
     }
 }
 
