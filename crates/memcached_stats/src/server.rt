@@ -59,19 +59,13 @@ pub(crate) fn command_lines(counts: &Counts) -> [Line; 22]
     ensures are { map stat_in result ≡ command_stats (since_in counts.now) }
     ensures short { All IsShort result }
 {
-    let (hits, misses) = (
-        counts.since(Counter::GetHits),
-        counts.since(Counter::GetMisses),
-    );
-    let (touched, untouched) = (
-        counts.since(Counter::TouchHits),
-        counts.since(Counter::TouchMisses),
-    );
-    let (swapped, absent, others) = (
-        counts.since(Counter::CasHits),
-        counts.since(Counter::CasMisses),
-        counts.since(Counter::CasBadval),
-    );
+    let hits = counts.since(Counter::GetHits);
+    let misses = counts.since(Counter::GetMisses);
+    let touched = counts.since(Counter::TouchHits);
+    let untouched = counts.since(Counter::TouchMisses);
+    let swapped = counts.since(Counter::CasHits);
+    let absent = counts.since(Counter::CasMisses);
+    let others = counts.since(Counter::CasBadval);
     let sets = counts.since(Counter::Sets) + swapped + absent + others;
     [
         told(b"cmd_get", hits + misses),
