@@ -1,5 +1,5 @@
 use Rattle.std.proofs.Common.{arith}
-use Rattle.locked_front.proofs.MarkLemmas.{made_says}
+use Rattle.locked_front.proofs.Marks.{made_says}
 use Rattle.locked_front.proofs.marks.make_mark.Goals as goal
 
 pub returns-clause-flush : goal.returns-clause-flush

@@ -2,7 +2,7 @@ use Rattle.std.proofs.Common.{subst, arith}
 use Rattle.std.proofs.lemmas.Bool.{eqb-true}
 use Rattle.partition_model.specs.Options.{IsPossible}
 use Rattle.locked_front.specs.Parts.{LockedView}
-use Rattle.locked_front.proofs.MarkLemmas.{lies_there}
+use Rattle.locked_front.proofs.Marks.{lies_there}
 use Rattle.locked_front.proofs.front.LockedFrontChanges.flush_key.Given.{Over}
 use Rattle.locked_front.proofs.front.LockedFrontChanges.flush_key.Goals.{Start}
 use Rattle.locked_front.proofs.front.LockedFrontChanges.flush_key.Goals as goal
