@@ -1,3 +1,5 @@
+mod Answered
+mod Refused
 mod Rooms
 mod Roomy
 mod Sums

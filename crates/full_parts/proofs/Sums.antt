@@ -1,5 +1,5 @@
 -- The keys of a store's cells, their rooms, and the spare buckets behind them.
-use Rattle.std.specs.Prelude.{⊤, T, ◌&&◌, sum_by, count_by}
+use Rattle.std.specs.Prelude.{T, ◌&&◌, count_by, slice_index_or, AllPairs}
 use Rattle.std.specs.Ordering.{nat_cmp, is_lt, is_eq, eq_by_cmp}
 use Rattle.std.specs.declared.cmp.ordering.Ordering.{Ordering}
 use Rattle.std.specs.declared.cmp.ordering.Ordering.TheVariants.{Less, Equal, Greater}
@@ -9,13 +9,15 @@ use Rattle.std.specs.FinMap.{FinMap, get, entries, keys, entries_sorted, get-ent
 use Rattle.std.specs.FinMap.Entries.{find, below_all, is_sorted}
 use Rattle.std.specs.List.{AllByRecursion}
 use Rattle.std.proofs.lemmas.Bool.{eqb-true, eqb-false}
-use Rattle.std.proofs.lemmas.List.Sums.{sum_by-cons}
+use Rattle.std.proofs.lemmas.List.Kept.{AllPairs-cons}
+use Rattle.std.proofs.lemmas.List.Sums.{count_by-le-length}
 use Rattle.std.proofs.Math.Nat.{div-mul-le_self, div-add-mod}
 use Rattle.std.proofs.Common.{◌≡◌, ◌≢◌, ◌≤◌, ◌<◌, ◌==◌, ◌+◌, ◌-◌, ◌*◌, ◌/◌, ◌%◌, ℕ, zero, suc, Bool, true, false, cond, List, [], ◌∷◌, length, map, Option, Some, None, refl, sym, ap, subst, ◌∙◌, arith}
 use Rattle.mica_words.specs.declared.hashing.Hashing.{Hashing}
 use Rattle.mica_words.specs.Hash.{bucket_of}
+use Rattle.mica_words.proofs.Hashes.{bucket_of-below}
 use Rattle.mica_words.specs.declared.entry.TheConstants.{SLOTS}
-use Rattle.partition_model.specs.Store.{Cell, Cells, keys_in, spares_behind, spares_below}
+use Rattle.partition_model.specs.Store.{Cell, Cells, keys_in, spares_behind, spares_below, spares_in_use}
 use Rattle.partition_model.proofs.Found.{count_cons}
 
 -- Keys
@@ -45,6 +47,21 @@ module _ {K X : Type 0} (R : K → K → Ordering) (o : IsTotalOrder R) where
   all_found (e ∷ es) sorted =
       let both = split (below_all R e.0 es) (is_sorted R es) sorted in
       (ap (λ r. cond (is_eq r) (Some e.1) (find R e.0 es)) (tied_itself o e.0), found_later e es es both.0 (all_found es both.1))
+
+  differ : (x y : K) → T (is_lt (R x y)) → x ≢ y
+  differ x y less same = subst (λ r. T (is_lt r)) (ap (R x) (sym same) ∙ tied_itself o x) less
+
+  differ_later : (x : K) (es : List (K × X)) → T (below_all R x es) → (k : ℕ) (d : K) → k < length (map (λ (e : K × X). e.0) es) → x ≢ slice_index_or (map (λ (e : K × X). e.0) es) k d
+  differ_later x [] below k d low = absurd (omega (arith, low))
+  differ_later x (e ∷ es) below zero d low = differ x e.0 (split (is_lt (R x e.0)) (below_all R x es) below).0
+  differ_later x (e ∷ es) below (suc k) d low = differ_later x es (split (is_lt (R x e.0)) (below_all R x es) below).1 k d (omega (arith, low))
+
+  -- each key stands once
+  pub all_once : (es : List (K × X)) → T (is_sorted R es) → AllPairs (λ one other. one ≢ other) (map (λ (e : K × X). e.0) es)
+  all_once [] sorted = λ i j d less within. absurd (omega (arith, within))
+  all_once (e ∷ es) sorted =
+      let both = split (below_all R e.0 es) (is_sorted R es) sorted in
+      AllPairs-cons (λ one other. one ≢ other) e.0 (map (λ (e : K × X). e.0) es) (differ_later e.0 es both.0) (all_once es both.1)
 
 -- what a map has at its entries
 pub entries_found : (m : Cells) → AllByRecursion (λ e. get m e.0 ≡ Some e.1) (entries m)
@@ -81,7 +98,7 @@ module _ (hashing : Hashing) (buckets : ℕ) where
       omega (arith, rest, here)
 
   -- where one of them is full
-  pub all_spares : (bucket n : ℕ) (cells : Cells) → bucket < n → 0 < keys_in hashing buckets bucket cells → keys_in hashing buckets bucket cells % SLOTS ≡ 0
+  all_spares : (bucket n : ℕ) (cells : Cells) → bucket < n → 0 < keys_in hashing buckets bucket cells → keys_in hashing buckets bucket cells % SLOTS ≡ 0
       → SLOTS * (spares_below hashing buckets n cells + 1) ≤ keys_below n cells
   unfolding spares_below
   all_spares bucket zero cells low some full = absurd (omega (arith, low))
@@ -93,7 +110,7 @@ module _ (hashing : Hashing) (buckets : ℕ) where
           let same = eqb-true bucket n is in
           let rest = no_more_spares n cells in
           let here =
-              full_bucket (keys_in hashing buckets n cells) (subst (λ k. 0 < keys_in hashing buckets k cells) same some) (subst (λ k. keys_in hashing buckets k cells % SLOTS ≡ 0) same full) in
+          full_bucket (keys_in hashing buckets n cells) (subst (λ k. 0 < keys_in hashing buckets k cells) same some) (subst (λ k. keys_in hashing buckets k cells % SLOTS ≡ 0) same full) in
           omega (arith, rest, here)
       by false is again =
           let rest = again (omega (arith, low, eqb-false bucket n is)) in
@@ -149,8 +166,21 @@ module _ (hashing : Hashing) (buckets : ℕ) where
   same_counts zero cells = refl
   same_counts (suc n) cells = ap (λ m. keys_in hashing buckets n cells + m) (same_counts n cells)
 
-  pub keys_most : (n : ℕ) (cells : Cells) → keys_below n cells ≤ length (keys cells)
+  keys_most : (n : ℕ) (cells : Cells) → keys_below n cells ≤ length (keys cells)
   keys_most n cells =
       let same = same_counts n cells in
       let few = few_keys n (keys cells) in
       omega (arith, same, few)
+
+-- Where the bucket of a key is full, and no spare is left, there are as many keys as all spares are for, and one bucket more.
+pub spares_full : (hashing : Hashing) (buckets : ℕ) (key : List ℕ) (cells : Cells) → 0 < keys_in hashing buckets (bucket_of hashing key buckets) cells
+    → keys_in hashing buckets (bucket_of hashing key buckets) cells % SLOTS ≡ 0 → SLOTS * (spares_in_use hashing buckets cells + 1) ≤ length (keys cells)
+unfolding spares_below
+spares_full hashing zero key cells some full =
+    let here = full_bucket hashing zero (keys_in hashing zero (bucket_of hashing key zero) cells) some full in
+    let most = count_by-le-length (λ k. bucket_of hashing k zero == bucket_of hashing key zero) (keys cells) in
+    omega (arith, here, most)
+spares_full hashing (suc n) key cells some full =
+    let all = all_spares hashing (suc n) (bucket_of hashing key (suc n)) (suc n) cells (bucket_of-below hashing key (suc n) (omega arith)) some full in
+    let most = keys_most hashing (suc n) (suc n) cells in
+    omega (arith, all, most)

@@ -1,5 +1,5 @@
 -- What the answer to a command does to the shelf of a store's part.
-use Rattle.std.proofs.Common.{◌≡◌, ◌≢◌, ◌≤◌, ◌<◌, ◌^◌, ◌&&◌, inl, inr, not, ℕ, Bool, true, false, cond, List, [], ◌∷◌, ◌++◌, length, Option, Some, None, is_some, option_map, bytes_eq, refl, sym, ap, subst, ◌∙◌, append-nil, arith}
+use Rattle.std.proofs.Common.{◌≡◌, ◌≢◌, ◌≤◌, ◌<◌, ◌^◌, ◌&&◌, ◌⊎◌, inl, inr, not, ℕ, Bool, true, false, cond, List, [], ◌∷◌, ◌++◌, length, Option, Some, None, is_some, option_map, bytes_eq, refl, sym, ap, subst, ◌∙◌, append-nil, arith}
 use Rattle.std.specs.Prelude.{IfSome}
 use Rattle.std.specs.List.{cons_option}
 use Rattle.std.proofs.lemmas.Bool.{true≢false}
@@ -263,12 +263,20 @@ module _ {options : Options} {base : ℕ} {h : History} {shelf : Shelf} (g : Beg
       | inr go ↦ gone_words go.0
     ]
 
+    -- a value is put, or a delete leaves none, which was decided where it was not dead
     pub words_of_write : (now : Shelf) → Now now → (write : Write) → write_for key look.value (stored_becoming (becoming_of moment asked.ask (value_in look.value))) ≡ Some write
-        → ((item : Item) × (becoming second number asked now ≡ becomes item) × (write ≡ write_of Put key (item_text item))) ⊎ ((words_in key (becoming second number asked now) ≡ 0) × (write ≡ write_of Del key []))
+        → ((item : Item) × (becoming second number asked now ≡ becomes item) × (write ≡ write_of Put key (item_text item)))
+        ⊎ ((words_in key (becoming second number asked now) ≡ 0) × (write ≡ write_of Del key []) × (is_dead base look ≡ false → becoming second number asked now ≡ goes))
     words_of_write now is_now write is = elim (written (becoming_of moment asked.ask (value_in look.value)) key look.value write is) [
       | inl put ↦ inl (put.0, becoming_same now is_now ∙ becomes_so (only_gets asked.ask) (value_in look.value) found becoming_is put.0 put.1, put.2)
-      | inr del ↦ inr (ap (words_in key) (becoming_same now is_now) ∙ gone_words del.0, del.1)
+      | inr del ↦ inr (ap (words_in key) (becoming_same now is_now) ∙ gone_words del.0, del.1, λ alive. becoming_same now is_now ∙ decided_so del.0 alive)
     ]
+      where
+        decided_so : becoming_of moment asked.ask (value_in look.value) ≡ goes → is_dead base look ≡ false → becoming_is ≡ goes
+        decided_so go alive = elim (goes_so (only_gets asked.ask) (value_in look.value) found becoming_is go) [
+          | inl same ↦ same
+          | inr dead ↦ absurd (true≢false (sym dead.1 ∙ ap (λ o. is_some o && not (is_some found)) value_is ∙ alive))
+        ]
 
     -- so in each case
 

@@ -1,4 +1,4 @@
-use Rattle.full_parts.proofs.Refused.{law}
+use Rattle.full_parts.proofs.Answered.{law}
 use Rattle.full_parts.proofs.laws.store_refuses.Goals as goal
 
 pub returns : goal.returns
