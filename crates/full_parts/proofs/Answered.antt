@@ -71,9 +71,14 @@ written_as shelf second number asked says b room is =
     ∙ ap (written_by asked.key (shelf.items asked.key)) is
 
 -- a delete has something to delete
+
+abbrev deletes : Option Write → Bool
+deletes None = false
+deletes (Some write) = is_delete write.op
+
 deletes_some : (key : List ℕ) (value : Option (List ℕ)) (b : Becoming) → write_for key value (stored_becoming b) ≡ Some (write_of Del key []) → is_some value ≡ true
 deletes_some key value stays is = absurd (cc)
-deletes_some key value (becomes item) is = absurd (cc)
+deletes_some key value (becomes item) is = absurd (true≢false (sym (ap deletes is)))
 deletes_some key None goes is = absurd (cc)
 deletes_some key (Some stored) goes is = refl
 
@@ -235,7 +240,7 @@ module _ {options : Options} {base : ℕ} (part : ℕ) {h : History} {earlier : 
       abbrev Deeds : (on dead delete : Bool) → List Deed
       Deeds on dead delete = cond (dead && delete && on) (went second key ∷ []) [] ++ carried second number asked (cond on says refusal) ∷ []
 
-      pub changed_so : Stands options base (h ++ cons_option (cond (is_accepted step.outcome) (Some step.write) None) [])
+      changed_so : Stands options base (h ++ cons_option (cond (is_accepted step.outcome) (Some step.write) None) [])
           (left_by shelf (Deeds (is_accepted step.outcome) (is_dead base look) (is_delete step.write.op)))
           → Stepped (h ++ cons_option (cond (is_accepted step.outcome) (Some step.write) None) []) (Deeds (is_accepted step.outcome) (is_dead base look) (is_delete step.write.op))
       changed_so stands = by (is_accepted step.outcome) (is_dead base look) (is_delete step.write.op) refl refl refl stands

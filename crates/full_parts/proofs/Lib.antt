@@ -1,4 +1,4 @@
-mod Answered
+pub mod Answered
 mod Refused
 mod Rooms
 mod Roomy

@@ -97,32 +97,32 @@ module _ (options : Options) (base : ℕ) (is_store : options.mode ≡ Store) (h
       gives = subst GivesValue deletes
 
       by : (o : Outcome) → is_accepted o ≡ false → ss.Allows options now write o → options.wear ≤ writes_in empty earlier
-      by Stored no is = absurd (true≢false no)
-      by Deleted no is = absurd (true≢false no)
-      by Absent no is = absurd (true≢false no)
-      by Touched no is = absurd (true≢false no)
-      by FullSpare no is = absurd (gives is.1.0)
-      by FullBlock no is = absurd (gives is.1.0.stores.0)
-      by Worn no is = worn is
-      by Exists no is = let both : Del ≡ Add = sym deletes ∙ is.1.0 in absurd (cc)
+      by Stored denied is = absurd (true≢false denied)
+      by Deleted denied is = absurd (true≢false denied)
+      by Absent denied is = absurd (true≢false denied)
+      by Touched denied is = absurd (true≢false denied)
+      by FullSpare denied is = absurd (gives is.1.0)
+      by FullBlock denied is = absurd (gives is.1.0.stores.0)
+      by Worn denied is = worn is
+      by Exists denied is = let both : Del ≡ Add = sym deletes ∙ is.1.0 in absurd (cc)
 
   -- and a put where there is no room for its item
   pub refused_put : (write : Write) (outcome : Outcome) → write.op ≡ Put → MayGive options h write outcome → is_accepted outcome ≡ false → LacksRoom options empty earlier write.key (size_of write)
   refused_put write outcome puts may off = by outcome off (subst (λ (s : State). Allows options s write outcome) is_it may)
     where
       short : (o : Option Cell) → get now.cells write.key ≡ o → (ss.FitsRoom now write → ⊥) → room_in write.key empty 0 earlier < size_of write
-      short None is no = let same = room_of_key write.key ∙ ap store.room_of is in omega (arith, same)
-      short (Some cell) is no =
+      short None is long = let same = room_of_key write.key ∙ ap store.room_of is in omega (arith, same)
+      short (Some cell) is long =
           let same = room_of_key write.key ∙ ap store.room_of is in
-          let less : ¬ (size_of write ≤ cell.room) = λ fits. no (subst (λ o. IsSomeAnd o (λ (c : Cell). size_of write ≤ c.room)) (sym is) fits) in
+          let less : ¬ (size_of write ≤ cell.room) = λ fits. long (subst (λ o. IsSomeAnd o (λ (c : Cell). size_of write ≤ c.room)) (sym is) fits) in
           omega (arith, same, less)
 
       by : (o : Outcome) → is_accepted o ≡ false → ss.Allows options now write o → LacksRoom options empty earlier write.key (size_of write)
-      by Stored no is = absurd (true≢false no)
-      by Deleted no is = absurd (true≢false no)
-      by Absent no is = absurd (true≢false no)
-      by Touched no is = absurd (true≢false no)
-      by FullSpare no is = inr (inl (is_store, let same = room_of_key write.key ∙ ap store.room_of is.1.1.is_new in omega (arith, same), spare_lacks write is.1.1))
-      by FullBlock no is = inr (inl (is_store, short (get now.cells write.key) refl is.1.0.no_room, block_lacks write is.1.1))
-      by Worn no is = inl (worn is)
-      by Exists no is = let both : Put ≡ Add = sym puts ∙ is.1.0 in absurd (cc)
+      by Stored denied is = absurd (true≢false denied)
+      by Deleted denied is = absurd (true≢false denied)
+      by Absent denied is = absurd (true≢false denied)
+      by Touched denied is = absurd (true≢false denied)
+      by FullSpare denied is = inr (inl (is_store, let same = room_of_key write.key ∙ ap store.room_of is.1.1.is_new in omega (arith, same), spare_lacks write is.1.1))
+      by FullBlock denied is = inr (inl (is_store, short (get now.cells write.key) refl is.1.0.no_room, block_lacks write is.1.1))
+      by Worn denied is = inl (worn is)
+      by Exists denied is = let both : Put ≡ Add = sym puts ∙ is.1.0 in absurd (cc)

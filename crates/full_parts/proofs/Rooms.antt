@@ -88,7 +88,7 @@ room_append key shelf room [] ys = refl
 room_append key shelf room (x ∷ xs) ys = room_append key (left_after x.deed shelf) (room_by key shelf x.deed room) xs ys
 
 pub writes_append : (shelf : Shelf) (xs ys : List Done) → writes_in shelf (xs ++ ys) ≡ writes_in shelf xs + writes_in (shelf_in shelf xs) ys
-writes_append shelf [] ys = refl
+writes_append shelf [] ys = omega arith
 writes_append shelf (x ∷ xs) ys = let later = writes_append (left_after x.deed shelf) xs ys in omega (arith, later)
 
 pub shelf_append : (shelf : Shelf) (xs ys : List Done) → shelf_in shelf (xs ++ ys) ≡ shelf_in (shelf_in shelf xs) ys

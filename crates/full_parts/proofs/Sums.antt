@@ -1,8 +1,8 @@
 -- The keys of a store's cells, their rooms, and the spare buckets behind them.
 use Rattle.std.specs.Prelude.{T, ◌&&◌, count_by, slice_index_or, AllPairs}
 use Rattle.std.specs.Ordering.{nat_cmp, is_lt, is_eq, eq_by_cmp}
-use Rattle.std.specs.declared.cmp.ordering.Ordering.{Ordering}
-use Rattle.std.specs.declared.cmp.ordering.Ordering.TheVariants.{Less, Equal, Greater}
+use Rattle.std.specs.declared.cmp.Ordering.{Ordering}
+use Rattle.std.specs.declared.cmp.Ordering.TheVariants.{Less, Equal, Greater}
 use Rattle.std.specs.Cmp.{IsTotalOrder, tied_itself}
 use Rattle.std.specs.Cmp.Lexicographic.{slice_cmp, nat_list_cmp_total}
 use Rattle.std.specs.FinMap.{FinMap, get, entries, keys, entries_sorted, get-entries}
@@ -26,7 +26,7 @@ split : (a b : Bool) → T (a && b) → T a × T b
 split true b is = (tt, is)
 split false b is = absurd is
 
-module _ {K X : Type 0} (R : K → K → Ordering) (o : IsTotalOrder R) where
+module _ {K : Type 0} (R : K → K → Ordering) (o : IsTotalOrder R) where
   apart : (x y : K) → T (is_lt (R x y)) → eq_by_cmp R y x ≡ false
   apart x y less = by (R y x) refl
     where
@@ -35,12 +35,16 @@ module _ {K X : Type 0} (R : K → K → Ordering) (o : IsTotalOrder R) where
       by Greater is = ap is_eq is
       by Equal is = absurd (subst (λ r. T (is_lt r)) (sym (o.congr y x y is) ∙ tied_itself o y) less)
 
+  differ : (x y : K) → T (is_lt (R x y)) → x ≢ y
+  differ x y less same = subst (λ r. T (is_lt r)) (ap (R x) (sym same) ∙ tied_itself o x) less
+
+module _ {K X : Type 0} (R : K → K → Ordering) (o : IsTotalOrder R) where
   -- each entry's key has its value
   found_later : (e : K × X) (es list : List (K × X)) → T (below_all R e.0 es) → AllByRecursion (λ f. find R f.0 list ≡ Some f.1) es → AllByRecursion (λ f. find R f.0 (e ∷ list) ≡ Some f.1) es
   found_later e [] list below all = tt
   found_later e (f ∷ es) list below all =
       let both = split (is_lt (R e.0 f.0)) (below_all R e.0 es) below in
-      (ap (λ b. cond b (Some e.1) (find R f.0 list)) (apart e.0 f.0 both.0) ∙ all.0, found_later e es list both.1 all.1)
+      (ap (λ b. cond b (Some e.1) (find R f.0 list)) (apart R o e.0 f.0 both.0) ∙ all.0, found_later e es list both.1 all.1)
 
   pub all_found : (es : List (K × X)) → T (is_sorted R es) → AllByRecursion (λ e. find R e.0 es ≡ Some e.1) es
   all_found [] sorted = tt
@@ -48,12 +52,9 @@ module _ {K X : Type 0} (R : K → K → Ordering) (o : IsTotalOrder R) where
       let both = split (below_all R e.0 es) (is_sorted R es) sorted in
       (ap (λ r. cond (is_eq r) (Some e.1) (find R e.0 es)) (tied_itself o e.0), found_later e es es both.0 (all_found es both.1))
 
-  differ : (x y : K) → T (is_lt (R x y)) → x ≢ y
-  differ x y less same = subst (λ r. T (is_lt r)) (ap (R x) (sym same) ∙ tied_itself o x) less
-
   differ_later : (x : K) (es : List (K × X)) → T (below_all R x es) → (k : ℕ) (d : K) → k < length (map (λ (e : K × X). e.0) es) → x ≢ slice_index_or (map (λ (e : K × X). e.0) es) k d
   differ_later x [] below k d low = absurd (omega (arith, low))
-  differ_later x (e ∷ es) below zero d low = differ x e.0 (split (is_lt (R x e.0)) (below_all R x es) below).0
+  differ_later x (e ∷ es) below zero d low = differ R o x e.0 (split (is_lt (R x e.0)) (below_all R x es) below).0
   differ_later x (e ∷ es) below (suc k) d low = differ_later x es (split (is_lt (R x e.0)) (below_all R x es) below).1 k d (omega (arith, low))
 
   -- each key stands once
