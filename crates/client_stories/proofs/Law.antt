@@ -81,9 +81,6 @@ module _ (options : Options) (base most in_all lacked : ℕ) (fronts : List (Lis
   one_course p = subst (λ mode. IsCourse mode empty (course p) (shelf_in empty (course p))) (sym is_store)
       (courses options base p _ is_store small (parts.parts_served options base some fronts orders marks (λ f own at. own_answers f own (slice_get fronts f) refl at) (λ f high. none_beyond f (slice_get fronts f) refl high) (λ f. are_marks f (slice_get fronts f) refl) p))
 
-  pub refuses : (p : ℕ) → RefusesWhereFull options empty (course p)
-  refuses p = all_refuse options base p _ is_store small (parts.parts_served options base some fronts orders marks (λ f own at. own_answers f own (slice_get fronts f) refl at) (λ f high. none_beyond f (slice_get fronts f) refl high) (λ f. are_marks f (slice_get fronts f) refl) p)
-
   -- the story of each share
   abbrev story_by : (f : ℕ) (o : Option (List Answered)) → slice_get fronts f ≡ o → Story
   story_by f None is = record { deeds = deeds f; reached = λ n. 0; lacking = [] }
@@ -147,6 +144,10 @@ module _ (options : Options) (base most in_all lacked : ℕ) (fronts : List (Lis
     turned_away = λ f. count_by is_turned_away (logs f).entries;
     counted = λ f low. refl;
   }
+
+  pub refuses : (p : ℕ) → RefusesWhereFull options empty (serves.courses p)
+  unfolding serves
+  refuses p = all_refuse options base p _ is_store small (parts.parts_served options base some fronts orders marks (λ f own at. own_answers f own (slice_get fronts f) refl at) (λ f high. none_beyond f (slice_get fronts f) refl high) (λ f. are_marks f (slice_get fronts f) refl) p)
 
 pub law : ServesClientsOfStore
 law options base most in_all lacked fronts runs before logs is_store some small lawful talked =

@@ -1,14 +1,14 @@
 -- One answer behind another, each refuses something only where there is no room.
-use Rattle.std.specs.Prelude.{◌&&◌, not, is_some}
+use Rattle.std.specs.Prelude.{◌&&◌, is_some}
 use Rattle.std.specs.List.{cons_option}
 use Rattle.std.proofs.lemmas.Bool.{true≢false}
-use Rattle.std.proofs.Common.{◌≡◌, ◌≤◌, ◌<◌, ◌+◌, ◌^◌, ◌⊎◌, inl, inr, ℕ, Bool, true, false, cond, List, [], ◌∷◌, ◌++◌, length, map, Option, Some, None, option_map, refl, sym, ap, subst, ◌∙◌, append-nil, length-append, arith}
+use Rattle.std.proofs.Common.{◌≡◌, ◌≤◌, ◌+◌, ◌⊎◌, inl, inr, ℕ, Bool, true, false, cond, List, [], ◌∷◌, ◌++◌, length, map, Option, Some, None, option_map, refl, sym, ap, subst, ◌∙◌, append-nil, length-append, arith}
 use Rattle.mica_words.specs.Mark.{is_mark}
 use Rattle.partition_model.specs.declared.options.Options.{Options}
 use Rattle.partition_model.specs.declared.options.Mode.TheVariants.{Store, Cache}
 use Rattle.partition_model.specs.declared.write.Write.{Write}
 use Rattle.partition_model.specs.declared.write.Op.TheVariants.{Put, Del}
-use Rattle.partition_model.specs.Write.{write_of, size_of, is_accepted}
+use Rattle.partition_model.specs.Write.{write_of, is_accepted}
 use Rattle.partition_model.specs.History.{History, MayGive, answer_of}
 use Rattle.partition_model.specs.Run.{RunStep}
 use Rattle.memcached_text.specs.declared.item.Item.{Item}
@@ -28,12 +28,11 @@ use Rattle.fronts.specs.Answered.{Answered, wrote, got, changed, kept}
 use Rattle.fronts.specs.Changing.{write_for}
 use Rattle.fronts.specs.Flushes.{is_delete, is_in_first, marks}
 use Rattle.fronts.specs.Looks.{Look, IsLookAt}
-use Rattle.command_answers.specs.AskAnswers.{AnswersAsk}
 use Rattle.command_answers.specs.FlushAnswers.{FlushesOne}
 use Rattle.one_order.specs.Order.{IsAnswerBehind, behind}
 use Rattle.memcached_page.specs.Shelf.{Shelf, empty, with_item}
 use Rattle.memcached_page.specs.Course.{Deed, carried, flushed, went, Done, is_no_room, becoming, after}
-use Rattle.memcached_page.specs.Kept.{words_in, words_of, Written, no_item, written_by, written, shelf_in, writes_in, room_in, LacksRoom, RefusedForCause, AtEach, RefusesWhereFull}
+use Rattle.memcached_page.specs.Kept.{words_in, words_of, Written, no_item, written_by, written, shelf_in, writes_in, room_in, LacksRoom, RefusedForCause, AtEach}
 use Rattle.part_courses.specs.Courses.{Purpose, asks, flushes, sweeps, Served, is_dead, IsFor, AreServed, deeds_of, done_by, course_of}
 use Rattle.part_courses.proofs.Values.{del_is, flushed_none}
 use Rattle.part_courses.proofs.Refusals.{has_room}

@@ -3,7 +3,7 @@ use Rattle.std.specs.Prelude.{is_some, sum_by, AllPairs, IsSomeAnd}
 use Rattle.std.specs.List.{AllByRecursion}
 use Rattle.std.specs.Ordering.{nat_cmp}
 use Rattle.std.specs.Cmp.Lexicographic.{slice_cmp, nat_list_cmp_total}
-use Rattle.std.specs.FinMap.{get, entries, keys, entries_sorted, len, len-entries}
+use Rattle.std.specs.FinMap.{get, entries, keys, entries_sorted, len-entries}
 use Rattle.std.proofs.lemmas.Bool.{true≢false}
 use Rattle.std.proofs.lemmas.List.{length-map}
 use Rattle.std.proofs.lemmas.List.Sums.{sum_by-cons}
@@ -12,7 +12,6 @@ use Rattle.mica_words.specs.declared.entry.TheConstants.{SLOTS}
 use Rattle.partition_model.specs.declared.options.Options.{Options}
 use Rattle.partition_model.specs.declared.options.Mode.TheVariants.{Store}
 use Rattle.partition_model.specs.declared.write.Write.{Write}
-use Rattle.partition_model.specs.declared.write.Op.{Op}
 use Rattle.partition_model.specs.declared.write.Op.TheVariants.{Put, Del, Add}
 use Rattle.partition_model.specs.declared.write.Outcome.{Outcome}
 use Rattle.partition_model.specs.declared.write.Outcome.TheVariants.{Stored, Deleted, Absent, Touched, FullSpare, FullBlock, Worn, Exists}
@@ -20,14 +19,14 @@ use Rattle.partition_model.specs.Write.{GivesValue, size_of, is_accepted}
 use Rattle.partition_model.specs.Store as store
 use Rattle.partition_model.specs.Store.{Cell}
 use Rattle.partition_model.specs.StoreStep as ss
-use Rattle.partition_model.specs.History.{History, MayGive, State, store_state, Allows, accepted_in, state_of, answer_of}
+use Rattle.partition_model.specs.History.{History, MayGive, State, store_state, Allows, accepted_in, state_of}
 use Rattle.partition_model.proofs.Histories.{stored_in, accepted_is_length}
 use Rattle.memcached_text.specs.Item.{item_in}
 use Rattle.memcached_page.specs.Shelf.{empty}
 use Rattle.memcached_page.specs.Course.{Done}
 use Rattle.memcached_page.specs.Kept.{shelf_in, writes_in, room_in, IsFull, LacksRoom}
 use Rattle.part_courses.proofs.Shelves.{Stands}
-use Rattle.full_parts.proofs.Rooms.{room_at, cell_of, before_is, value_is}
+use Rattle.full_parts.proofs.Rooms.{room_at, before_is, value_is}
 use Rattle.full_parts.proofs.Sums.{all_once, entries_found, spares_full}
 
 -- A store's part behind so many writes, with the rooms of its keys on the page.

@@ -1,31 +1,24 @@
 -- Behind each answer the page has the rooms of the machine.
-use Rattle.std.specs.Prelude.{⊤, ◌&&◌, is_some}
-use Rattle.std.specs.List.{cons_option}
+use Rattle.std.specs.Prelude.{is_some}
 use Rattle.std.proofs.lemmas.Bool.{true≢false, eqb-true}
 use Rattle.std.proofs.lemmas.Slice.Eq.{bytes_eq-Decides}
-use Rattle.std.proofs.lemmas.List.{append-nil}
-use Rattle.std.proofs.Common.{◌≡◌, ◌≢◌, ◌≤◌, ◌<◌, ◌==◌, ◌+◌, ◌^◌, ◌⊎◌, inl, inr, ℕ, suc, Bool, true, false, cond, List, [], ◌∷◌, ◌++◌, length, map, Option, Some, None, option_map, bytes_eq, refl, sym, ap, subst, ◌∙◌, length-append, arith}
+use Rattle.std.proofs.Common.{◌≡◌, ◌≢◌, ◌<◌, ◌==◌, ℕ, Bool, true, false, cond, List, [], ◌∷◌, ◌++◌, map, Option, Some, None, option_map, bytes_eq, refl, sym, ap, subst, ◌∙◌, arith}
 use Rattle.partition_model.specs.declared.options.Options.{Options}
-use Rattle.partition_model.specs.declared.options.Mode.TheVariants.{Store, Cache}
+use Rattle.partition_model.specs.declared.options.Mode.TheVariants.{Store}
 use Rattle.partition_model.specs.declared.write.Write.{Write}
-use Rattle.partition_model.specs.declared.write.Op.TheVariants.{Put, Del}
-use Rattle.partition_model.specs.Write.{write_of, size_of, is_accepted}
+use Rattle.partition_model.specs.declared.write.Op.TheVariants.{Put}
+use Rattle.partition_model.specs.Write.{write_of, size_of}
 use Rattle.partition_model.specs.Rooms.{keeps}
 use Rattle.partition_model.specs.History.{History, answer_of}
-use Rattle.partition_model.specs.Run.{RunStep}
 use Rattle.memcached_text.specs.declared.item.Item.{Item}
 use Rattle.memcached_text.specs.Item.{item_text, item_in}
 use Rattle.memcached_commands.specs.declared.asks.Asked.{Asked}
 use Rattle.memcached_commands.specs.declared.ask.Says.{Says}
-use Rattle.memcached_commands.specs.Decide.{becomes}
-use Rattle.fronts.specs.Looks.{Look}
-use Rattle.memcached_decisions.specs.Numbered.{numbered}
-use Rattle.memcached_page.specs.Shelf.{Shelf, empty}
-use Rattle.memcached_page.specs.Course.{Deed, carried, went, is_no_room, becoming, after, Done}
-use Rattle.memcached_page.specs.Kept.{Written, words_of, words_in, written, room_then, room_in, shelf_in}
+use Rattle.memcached_page.specs.Shelf.{Shelf}
+use Rattle.memcached_page.specs.Course.{Deed, carried, went, after}
+use Rattle.memcached_page.specs.Kept.{Written, words_of, written, room_then, room_in}
 use Rattle.part_courses.specs.Courses.{Served, done_by}
 use Rattle.part_courses.proofs.Shelves.{Stands}
-use Rattle.part_courses.proofs.Steps.{left_by, Begun}
 use Rattle.part_courses.proofs.Written.{other_key}
 use Rattle.full_parts.proofs.Rooms.{cell_of, room_at, no_room_of, other_room_at, put_room_at, room_is, room_by, same_room, other_room, own_room}
 
