@@ -50,13 +50,12 @@ Leads n close s (entry ∷ entries) n' close' s' = (0 < n) × (mid : Option Stre
 
 leads_more : (n close : ℕ) (s : Option Stream) (entries : List Entry) (n' close' : ℕ) (s' s'' : Option Stream) (entry : Entry)
     → Leads n close s entries n' close' s' → 0 < n' → IsRead close' s' s'' entry → Leads n close s (entries ++ entry ∷ []) (left_after n' entry) (close_after close' entry) s''
-leads_more n close s [] n' close' s' s'' entry leads some read =
-    (
-      subst (λ (k : ℕ). 0 < k) leads.0 some,
-      s'',
-      subst (λ (z : Option Stream). IsRead close z s'' entry) leads.2 (subst (λ (k : ℕ). IsRead k s' s'' entry) leads.1 read),
-      (ap (λ (k : ℕ). left_after k entry) leads.0, ap (λ (k : ℕ). close_after k entry) leads.1, refl),
-    )
+leads_more n close s [] n' close' s' s'' entry leads some read = (
+  subst (λ (k : ℕ). 0 < k) leads.0 some,
+  s'',
+  subst (λ (z : Option Stream). IsRead close z s'' entry) leads.2 (subst (λ (k : ℕ). IsRead k s' s'' entry) leads.1 read),
+  (ap (λ (k : ℕ). left_after k entry) leads.0, ap (λ (k : ℕ). close_after k entry) leads.1, refl),
+)
 leads_more n close s (first ∷ entries) n' close' s' s'' entry leads some read =
     (leads.0, leads.1, leads.2, leads_more (left_after n first) (close_after close first) leads.1 entries n' close' s' s'' entry leads.3 some read)
 
