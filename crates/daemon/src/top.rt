@@ -126,28 +126,32 @@ fn serve_aloud<W: Threads + Wait + Sync, K: Sink + Drop, N: Net, L: Listeners, G
 fn stay_up<W: Threads + Wait + Sync, K: Sink + Drop, N: Net, L: Listeners, G: Gate>(
     process: &Process<W, G>,
     start: Start,
-    options: &Options,
-    ports: &PortOptions,
-    streams: &StreamOptions,
+    read: &DaemonOptions,
     filling: Vec<Write>,
     speaker: &mut Speaker<K>,
     net: &mut N,
     listeners: &mut L,
     left: &mut Left,
 ) -> DaemonStatus
-    requires options { IsPossible options.now }
-    requires fronts { ArePossibleFronts ports.now streams.now.ports }
+    requires options { IsPossible read.now.options }
+    requires fronts { ArePossibleFronts read.now.ports read.now.streams.ports }
     requires filling { All IsWrite filling.items }
     requires unbound { N.binds net.old ≡ 0 }
     requires tables { left.old.tables ≡ [] }
     requires uncounted { left.old.lacked ≡ 0 }
-    ensures { ServesOrNot options.now ports.now streams.now start.base filling.items
+    ensures { ServesOrNot read.now.options read.now.ports read.now.streams start.base filling.items
         (daemon_outside (sink_facts K.Sink speaker.old.sink) (ports_at N.Net L.Listeners net.old listeners.old) left.old.tables left.old.lacked)
         (daemon_outside (sink_facts K.Sink speaker.new.sink) (ports_at N.Net L.Listeners net.new listeners.new) left.new.tables left.new.lacked) result }
 {
-    let Ok(board) = board_of(process, start, options, ports, streams, filling.as_slice()) else {
+    let Ok(board) = board_of(process, start, read, filling.as_slice()) else {
         return DaemonStatus::NoMemory;
     };
+    let DaemonOptions {
+        options,
+        ports,
+        streams,
+        ..
+    } = read;
     let Ok(places) = places_of(process.alloc, streams) else {
         return DaemonStatus::NoMemory;
     };
@@ -167,7 +171,7 @@ fn stay_up<W: Threads + Wait + Sync, K: Sink + Drop, N: Net, L: Listeners, G: Ga
         rt: process.rt,
         alloc: process.alloc,
         service,
-        board: &board,
+        board,
         gate: process.gate,
         ended: process.ended,
     };
@@ -215,26 +219,21 @@ pub fn daemon<W: Threads + Wait + Sync, F: Files, K: Sink + Drop, N: Net, L: Lis
         (daemon_outside (sink_facts K.Sink speaker.old.sink) (ports_at N.Net L.Listeners net.old listeners.old) left.old.tables left.old.lacked)
         (daemon_outside (sink_facts K.Sink speaker.new.sink) (ports_at N.Net L.Listeners net.new listeners.new) left.new.tables left.new.lacked) result }
 {
-    let DaemonOptions {
-        options,
-        ports,
-        streams,
-        image,
-    } = match read_daemon(process.alloc, words, process.processors) {
+    let read = match read_daemon(process.alloc, words, process.processors) {
         Ok(read) => read,
         Err(WordsFault::Usage) => return DaemonStatus::Usage,
         Err(WordsFault::NoMemory) => return DaemonStatus::NoMemory,
     };
-    if !has_memory(process.alloc, files, &options) {
-        speaker.reason = shortage_reason(process.alloc, files, words, &options);
+    if !has_memory(process.alloc, files, &read.options) {
+        speaker.reason = shortage_reason(process.alloc, files, words, &read.options);
         return DaemonStatus::NoMemory;
     }
-    match filling_of(process.alloc, files, image, &mut speaker.sink) {
+    match filling_of(process.alloc, files, read.image, &mut speaker.sink) {
         Ok(filling) => stay_up(
-            process, start, &options, &ports, &streams, filling, speaker, net, listeners, left,
+            process, start, &read, filling, speaker, net, listeners, left,
         ),
         Err(status) => {
-            note_image(process.alloc, image, status, speaker);
+            note_image(process.alloc, read.image, status, speaker);
             status
         }
     }
