@@ -1,9 +1,10 @@
 -- The bytes in the words of an item.
-use Rattle.std.proofs.Common.{◌≡◌, ℕ, suc, ◌+◌, ◌*◌, ◌<◌, ◌≤◌, List, ◌++◌, length, take, flat_map, get_or, slice_index, refl, sym, ap, ◌∙◌, subst, arith}
+use Rattle.std.proofs.Common.{◌≡◌, ℕ, ◌+◌, ◌<◌, ◌≤◌, List, Bool, true, false, ◌&&◌, ◌^◌, length, take, slice_index, refl, sym, ap, ◌∙◌, subst, arith}
+use Rattle.std.specs.Prelude.{nat_lt, nat_le}
+use Rattle.std.proofs.lemmas.Bool.{ltb-true, leb-true}
 use Rattle.std.proofs.lemmas.List.{length-take-le}
-use Rattle.std.specs.Int.{w64, to_le_bytes}
 use Rattle.mica_words.specs.Header.{header_of, header_key_len, header_value_len}
-use Rattle.mica_words.specs.Item.{item_size, words_for}
+use Rattle.mica_words.specs.Item.{words_for}
 use Rattle.mica_words.specs.Packing.{AreBytes, packed, unpacked}
 use Rattle.mica_words.proofs.Fields.{header_key_len-header_of, header_value_len-header_of}
 use Rattle.mica_words.proofs.ItemWords.{packed_key_word, value_word, same_value}
@@ -17,8 +18,7 @@ use Rattle.partition_words.proofs.Machine.{Fits, has_fits}
 use Rattle.mica_words.specs.Entry.{entry_offset}
 use Rattle.circular_log.specs.LogItem.{words_from}
 use Rattle.circular_log.proofs.LoadedValue.{bytes_from, length-bytes_from, length-words_from, word_from}
-use Rattle.saved_items.specs.Items.{Pair}
-use Rattle.partition_walk.specs.PairAt.{bytes_in, key_at, value_at, pair_at, is_item}
+use Rattle.partition_walk.specs.PairAt.{bytes_in, key_at, value_at, is_item}
 
 -- what was read of so many words, cut to a length
 pub bytes_read : (o : OwnerState) (p n len : ℕ) (bytes : List ℕ) → n ≡ words_for len → bytes ≡ bytes_from o p n → take len bytes ≡ bytes_in o p len
@@ -29,6 +29,20 @@ bytes_read o p n len bytes count is = ap (take len) (is ∙ ap (bytes_from o p) 
 pub length-bytes_in : (o : OwnerState) (p len : ℕ) → length (bytes_in o p len) ≡ len
 unfolding unpacked
 length-bytes_in o p len = length-take-le len (bytes_from o p (words_for len)) (omega (arith, length-bytes_from o p (words_for len)))
+
+-- the lengths in the header of an item
+all_three : (a b c : Bool) → (a && b && c) ≡ true → (b ≡ true) × (c ≡ true)
+all_three true true true is = (refl, refl)
+all_three true true false is = absurd cc
+all_three true false c is = absurd cc
+all_three false b c is = absurd cc
+
+pub item_lengths : (o : OwnerState) (p header : ℕ) → is_item o p ≡ true → header ≡ item_in o p → (0 < header_key_len header) × (header_value_len header ≤ 1048592)
+item_lengths o p header is at =
+    let fits = all_three (nat_lt p (2 ^ 48)) (nat_lt 0 (header_key_len (item_in o p))) (nat_le (header_value_len (item_in o p)) 1048592) is in (
+      subst (λ (h : ℕ). 0 < header_key_len h) (sym at) (ltb-true 0 (header_key_len (item_in o p)) fits.0),
+      subst (λ (h : ℕ). header_value_len h ≤ 1048592) (sym at) (leb-true (header_value_len (item_in o p)) 1048592 fits.1),
+    )
 
 -- words that are those of packed bytes
 bytes_there : (o : OwnerState) (p : ℕ) (bytes : List ℕ) → AreBytes bytes → ((i : ℕ) → i < words_for (length bytes) → item_in o (p + i) ≡ slice_index (packed bytes) i) → bytes_in o p (length bytes) ≡ bytes

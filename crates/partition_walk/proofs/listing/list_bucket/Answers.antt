@@ -20,7 +20,7 @@ loop-slot-preserved g c =
       home = c.read-entry.ensures.home ∙ c.loop-slot.invariant.home;
       listed = elim c.if-names_item.branch [
         | then-names_item+in_ok-push w ↦
-            let items : c.if-names_item.offsets.items ≡ ys ++ w.entry_offset.result ∷ [] = cc in
+            let items : c.if-names_item.offsets.items ≡ ys ++ w.entry_offset.result ∷ [] = rw w.offsets-is w.in_ok-push.ensures.items in
             subst (Adds (HasItemBelow o (slot + 1) c.args.bucket) xs) (sym items)
             (one_slot o c.args.bucket slot xs ys c.loop-slot.invariant.listed c.read-entry.result w.entry_offset.result entry w.entry_offset.ensures
             (live_here o c.args.shape.now c.args.stamp c.read-entry.result c.requires.shape c.requires.stamp (c.names_item.ensures.0 w.if-names_item.true)))
