@@ -91,12 +91,12 @@ counter_of_stored at (Some stored) = counter_of_gone at (item_in stored)
 
 -- And beside that by what was said of a key: each item that is stored, and what is stored of a key that was looked for and not found.
 abbrev pub counter_beside : Says → Option Counter → Option Counter
-counter_beside (Stores unique) gone = Some counters.Items
-counter_beside (Number n unique left true) gone = Some counters.Items
-counter_beside Nothing gone = gone
-counter_beside (Line NotFound) gone = gone
-counter_beside (Line NotStored) gone = gone
-counter_beside _ gone = None
+counter_beside (Stores unique) stored = Some counters.Items
+counter_beside (Number n unique left true) stored = Some counters.Items
+counter_beside Nothing stored = stored
+counter_beside (Line NotFound) stored = stored
+counter_beside (Line NotStored) stored = stored
+counter_beside _ stored = None
 
 -- by what is refused: a store whose block came with no end behind it, and one of a value that is too long
 abbrev pub counter_of_refusal : Fault → Option Counter

@@ -143,34 +143,42 @@ server_text style partitions told =
 abbrev pub on_or_off : Bool → List ℕ
 on_or_off is_on = if is_on then codes "on" else codes "off"
 
--- what it was started with, and what never changes
-abbrev pub settings_stats : About → List Stat
-settings_stats about =
+-- what it was started with
+abbrev pub start_stats : About → List Stat
+start_stats about =
     stat (codes "maxbytes") about.limit_maxbytes
     ∷ stat (codes "maxconns") about.max_connections
     ∷ stat (codes "tcpport") about.port
-    ∷ stat (codes "udpport") 0
-    ∷ stat (codes "verbosity") 0
     ∷ word (codes "evictions") (on_or_off about.evicts)
-    ∷ word (codes "shutdown_command") (codes "no")
     ∷ stat (codes "num_threads") about.threads
-    ∷ word (codes "detail_enabled") (codes "no")
-    ∷ word (codes "cas_enabled") (codes "yes")
+    ∷ stat (codes "idle_timeout") about.idle_timeout
+    ∷ []
+
+-- and what never changes
+abbrev pub fixed_stats : List Stat
+fixed_stats =
+    stat (codes "udpport") 0
+    ∷ stat (codes "verbosity") 0
+    ∷ stat (codes "item_size_max") MAX_TEXT_LEN
     ∷ word (codes "binding_protocol") (codes "auto-negotiate")
+    ∷ word (codes "cas_enabled") (codes "yes")
+    ∷ word (codes "maxconns_fast") (codes "yes")
+    ∷ word (codes "flush_enabled") (codes "yes")
+    ∷ word (codes "shutdown_command") (codes "no")
+    ∷ word (codes "detail_enabled") (codes "no")
+    ∷ word (codes "dump_enabled") (codes "no")
     ∷ word (codes "auth_enabled_sasl") (codes "no")
     ∷ word (codes "auth_enabled_ascii") (codes "no")
-    ∷ stat (codes "item_size_max") MAX_TEXT_LEN
-    ∷ word (codes "maxconns_fast") (codes "yes")
+    ∷ word (codes "ssl_enabled") (codes "no")
     ∷ word (codes "slab_reassign") (codes "no")
     ∷ word (codes "lru_crawler") (codes "no")
     ∷ word (codes "lru_maintainer_thread") (codes "no")
     ∷ word (codes "lru_segmented") (codes "no")
-    ∷ word (codes "flush_enabled") (codes "yes")
-    ∷ word (codes "dump_enabled") (codes "no")
-    ∷ stat (codes "idle_timeout") about.idle_timeout
     ∷ word (codes "track_sizes") (codes "no")
-    ∷ word (codes "ssl_enabled") (codes "no")
     ∷ []
+
+abbrev pub settings_text : Style → About → List ℕ
+settings_text style about = lines_of style (start_stats about) ++ lines_of style fixed_stats
 
 -- the memory that items lie in, which has no classes
 abbrev pub slab_stats : About → List Stat
@@ -182,7 +190,7 @@ size_stats = word (codes "sizes_status") (codes "disabled") ∷ []
 -- what is told of a topic: of items and of connections nothing
 abbrev pub topic_text : Style → ℕ → Told → Topic → List ℕ
 topic_text style partitions told topics.Server = server_text style partitions told
-topic_text style partitions told topics.Settings = lines_of style (settings_stats told.about)
+topic_text style partitions told topics.Settings = settings_text style told.about
 topic_text style partitions told topics.Slabs = lines_of style (slab_stats told.about)
 topic_text style partitions told topics.Sizes = lines_of style size_stats
 topic_text style partitions told _ = []

@@ -3,12 +3,12 @@ ghost use Rattle.std.specs.Prelude.{◌≡◌, ◌≤◌, ◌+◌, ◌++◌, Lis
 ghost use Rattle.memcached_text.specs.declared.limits.TheConstants.{MAX_REPLY_LEN};
 ghost use Rattle.memcached_stats.specs.Figures.{told_of};
 ghost use Rattle.memcached_stats.specs.declared.put.TheConstants.{MOST_TEXT};
-ghost use Rattle.memcached_stats.specs.Stats.{reply_on, server_text, stats_text, topic_text};
+ghost use Rattle.memcached_stats.specs.Stats.{reply_on, server_text, settings_text, stats_text, topic_text};
 
-use crate::figures::Figures;
+use crate::figures::{About, Figures};
 use crate::lines::{put_lines, put_wears, told_word};
 use crate::server::{command_lines, connection_lines, eviction_lines, process_lines};
-use crate::topics::{settings_lines, slab_lines};
+use crate::topics::{fixed_lines, slab_lines, start_lines};
 use memcached_commands::Says;
 use memcached_requests::{Style, put_said};
 use memcached_text::{Reply, Topic};
@@ -39,7 +39,19 @@ fn put_server(
         style,
         partitions.min(MOST_PARTITIONS),
         figures.wears.as_slice(),
-    )
+    )?;
+    Ok(())
+}
+
+// Appends what the server was started with, and what never changes. When out of memory, some of it may be appended.
+fn put_settings(out: &mut Vec<u8>, style: &Style, about: &About) -> Result<(), NoMemory>
+    ensures ok { OnOk result (out.new.items ≡ out.old.items ++ settings_text style.now about.now) }
+    ensures short { OnOk result (length out.new.items ≤ length out.old.items + MOST_TEXT) }
+    ensures more { (text : List ℕ) × (out.new.items ≡ out.old.items ++ text) }
+{
+    put_lines(out, style, &start_lines(about))?;
+    put_lines(out, style, &fixed_lines())?;
+    Ok(())
 }
 
 // Appends what is told of a topic. When out of memory, some of it may be appended.
@@ -57,7 +69,7 @@ fn put_topic(
     let about = &figures.about;
     match topic {
         Topic::Server => put_server(out, style, partitions, figures),
-        Topic::Settings => put_lines(out, style, &settings_lines(about)),
+        Topic::Settings => put_settings(out, style, about),
         Topic::Slabs => put_lines(out, style, &slab_lines(about)),
         Topic::Sizes => put_lines(out, style, &[told_word(b"sizes_status", b"disabled")]),
         _ => Ok(()),

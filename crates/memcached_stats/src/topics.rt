@@ -2,7 +2,7 @@
 ghost use Rattle.std.specs.Prelude.{◌≡◌, ◌≤◌, length, map};
 ghost use Rattle.std.specs.List.{All};
 ghost use Rattle.memcached_stats.specs.Lines.{IsShort, stat_in};
-ghost use Rattle.memcached_stats.specs.Stats.{on_or_off, settings_stats, slab_stats};
+ghost use Rattle.memcached_stats.specs.Stats.{fixed_stats, on_or_off, slab_stats, start_stats};
 
 use crate::figures::About;
 use crate::lines::{Line, told, told_word};
@@ -16,35 +16,44 @@ fn on_or_off(is_on: bool) -> &'static [u8]
 }
 
 /// What the server was started with.
-pub(crate) fn settings_lines(about: &About) -> [Line; 24]
-    ensures are { map stat_in result ≡ settings_stats about.now }
+pub(crate) fn start_lines(about: &About) -> [Line; 6]
+    ensures are { map stat_in result ≡ start_stats about.now }
     ensures short { All IsShort result }
 {
     [
         told(b"maxbytes", about.limit_maxbytes),
         told(b"maxconns", about.max_connections),
         told(b"tcpport", about.port),
+        told_word(b"evictions", on_or_off(about.evicts)),
+        told(b"num_threads", about.threads),
+        told(b"idle_timeout", about.idle_timeout),
+    ]
+}
+
+/// What never changes.
+pub(crate) fn fixed_lines() -> [Line; 18]
+    ensures are { map stat_in result ≡ fixed_stats }
+    ensures short { All IsShort result }
+{
+    [
         told(b"udpport", 0),
         told(b"verbosity", 0),
-        told_word(b"evictions", on_or_off(about.evicts)),
-        told_word(b"shutdown_command", b"no"),
-        told(b"num_threads", about.threads),
-        told_word(b"detail_enabled", b"no"),
-        told_word(b"cas_enabled", b"yes"),
+        told(b"item_size_max", MAX_TEXT_LEN as u64),
         told_word(b"binding_protocol", b"auto-negotiate"),
+        told_word(b"cas_enabled", b"yes"),
+        told_word(b"maxconns_fast", b"yes"),
+        told_word(b"flush_enabled", b"yes"),
+        told_word(b"shutdown_command", b"no"),
+        told_word(b"detail_enabled", b"no"),
+        told_word(b"dump_enabled", b"no"),
         told_word(b"auth_enabled_sasl", b"no"),
         told_word(b"auth_enabled_ascii", b"no"),
-        told(b"item_size_max", MAX_TEXT_LEN as u64),
-        told_word(b"maxconns_fast", b"yes"),
+        told_word(b"ssl_enabled", b"no"),
         told_word(b"slab_reassign", b"no"),
         told_word(b"lru_crawler", b"no"),
         told_word(b"lru_maintainer_thread", b"no"),
         told_word(b"lru_segmented", b"no"),
-        told_word(b"flush_enabled", b"yes"),
-        told_word(b"dump_enabled", b"no"),
-        told(b"idle_timeout", about.idle_timeout),
         told_word(b"track_sizes", b"no"),
-        told_word(b"ssl_enabled", b"no"),
     ]
 }
 

@@ -63,14 +63,14 @@ pub fn watch<R: Eprint + Files + Wait + time::Clock>(rt: &R, alloc: Global, flag
     let mut journal = Journal::new(&flags.board, &flags.doors);
     let mut sees = true;
     let mut pause = 1u64;
-    let mut looks = 0;
+    let mut looks = 0u32;
     for _ in rt.forever() {
         sees = sees && looks_on(&system, alloc, flags);
         journal.tell(rt, alloc, clock.second());
         if looks == 0 {
             look_at_work(&system, alloc, flags);
         }
-        looks = (looks + 1) % LOOKS_AT_WORK;
+        looks = looks.wrapping_add(1) % LOOKS_AT_WORK;
         if flags.over.load(Ordering::Relaxed) {
             return;
         }

@@ -1,4 +1,4 @@
-use Rattle.std.proofs.Common.{◌≡◌, ◌++◌, min, ap, ◌∙◌, arith}
+use Rattle.std.proofs.Common.{◌≡◌, ◌≤◌, ◌++◌, Bool, true, false, min, ap, ◌∙◌, arith}
 use Rattle.std.specs.Prelude.{sum_by}
 use Rattle.partition_model.specs.declared.options.TheConstants.{MOST_PARTITIONS}
 use Rattle.memcached_stats.specs.Figures.{since_in, told_of, wear_in}
@@ -25,7 +25,11 @@ returns-clause-ok c =
     c.in_ok-put_lines-3.ensures.ok ∙ (λ i. two i ++ lines_of style (c.command_lines.ensures.are i)) in
     let four : c.put_lines-4.new.out.items ≡ before ++ process ++ connections ++ commands ++ evictions =
     c.in_ok-put_lines-4.ensures.ok ∙ (λ i. three i ++ lines_of style (c.eviction_lines.ensures.are i)) in
-    c.put_wears.ensures.ok ∙ (λ i. four i ++ wear_text style 0 (c.min.ensures i) (wear_in figures.wears)) ∙ in_turn before process connections commands evictions worn
+    c.in_ok-put_wears.ensures.ok ∙ (λ i. four i ++ wear_text style 0 (c.min.ensures i) (wear_in (c.as_slice.ensures i))) ∙ in_turn before process connections commands evictions worn
+
+few_evictions : (evicts : Bool) → sum_by most_len (eviction_stats evicts) ≤ 65
+few_evictions true = omega arith
+few_evictions false = omega arith
 
 pub returns-clause-short : goal.returns-clause-short
 returns-clause-short c =
@@ -43,6 +47,10 @@ returns-clause-short c =
       commands,
       c.in_ok-put_lines-4.ensures.short,
       evictions,
+      few_evictions c.args.figures.now.about.evicts,
       c.in_ok-put_wears.ensures.short,
       c.min.ensures,
     )
+
+pub returns-clause-more : goal.returns-clause-more
+returns-clause-more c = (_, returns-clause-ok c)
