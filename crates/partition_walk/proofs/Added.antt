@@ -1,5 +1,5 @@
 -- What a walk over buckets adds to a list.
-use Rattle.std.proofs.Common.{◌≡◌, ◌≢◌, ◌⊎◌, inl, inr, ⊎_elim, ℕ, zero, suc, ◌+◌, ◌<◌, List, [], ◌∷◌, ◌++◌, refl, sym, ap, subst, ◌∙◌, arith}
+use Rattle.std.proofs.Common.{◌≡◌, ◌≢◌, ◌⊎◌, inl, inr, ℕ, zero, suc, ◌+◌, ◌<◌, List, [], ◌∷◌, ◌++◌, refl, sym, ap, subst, ◌∙◌, arith}
 use Rattle.std.specs.Prelude.{Contains}
 use Rattle.std.specs.Ordering.{nat_cmp}
 use Rattle.std.specs.List.{dedup}
@@ -9,7 +9,6 @@ use Rattle.std.proofs.lemmas.List.Sorted.{Contains-permutation, IsPermutation-sy
 use Rattle.std.proofs.lemmas.List.Elements.{Contains-append_left, Contains-push, Contains-push_cases}
 use Rattle.std.proofs.lemmas.List.Kept.{Contains-dedup_nat, Contains-from_dedup}
 use Rattle.std.proofs.lemmas.Map.Keys.{IsStrictlyIncreasing-dedup}
-use Rattle.mica_words.specs.declared.entry.TheConstants.{SLOTS}
 use Rattle.mica_words.specs.Entry.{entry_offset}
 use Rattle.partition_words.specs.declared.state.OwnerState.{OwnerState}
 use Rattle.partition_words.specs.declared.shape.Shape.{Shape}
@@ -17,7 +16,7 @@ use Rattle.partition_words.specs.Kept.{Kept}
 use Rattle.partition_words.specs.Shape.{IsMain, IsBucket, IsSpare}
 use Rattle.partition_words.specs.OwnerState.{stamp_in, entry_in, link_in}
 use Rattle.partition_words.specs.Chain.{IsAmong}
-use Rattle.partition_words.specs.LiveEntry.{IsLive, HasLiveEntry}
+use Rattle.partition_words.specs.LiveEntry.{IsLive}
 use Rattle.partition_words.proofs.Failing.{in_none}
 use Rattle.partition_walk.specs.Listed.{HasItemBelow, HasItem, HasItemFrom, HasItemInChain, IsItemAt, Adds, AreListed}
 

@@ -1,8 +1,8 @@
 -- A cache's items in the order of its log.
-use Rattle.std.proofs.Common.{◌≡◌, ◌≢◌, ◌⊎◌, inl, inr, ℕ, ◌+◌, ◌<◌, ◌≤◌, Bool, true, false, cond, List, [], ◌∷◌, map, Option, Some, None, option_map, refl, sym, ap, subst, ◌∙◌, arith}
+use Rattle.std.proofs.Common.{◌≡◌, inl, inr, ℕ, ◌+◌, ◌≤◌, Bool, true, false, cond, List, [], ◌∷◌, map, Some, None, option_map, refl, sym, ap, subst, ◌∙◌, arith}
 use Rattle.std.specs.List.{find, AllByRecursion}
 use Rattle.std.specs.Prelude.{Contains}
-use Rattle.std.proofs.lemmas.Bool.{cases_Bool, true≢false}
+use Rattle.std.proofs.lemmas.Bool.{cases_Bool}
 use Rattle.std.proofs.lemmas.Option.{same_Some}
 use Rattle.partition_model.specs.Cache.{Record, Cache, has_key, record_of}
 use Rattle.partition_model.specs.Store.{Cell}
@@ -22,7 +22,7 @@ use Rattle.kept_items.specs.Kept.{AreRecords, AreInOrder}
 use Rattle.partition_walk.specs.Listed.{IsItemAt, AreListed}
 use Rattle.partition_walk.specs.PairAt.{key_at, value_at, pair_at}
 use Rattle.partition_walk.proofs.Rising.{Rises, rises_of, same_risen}
-use Rattle.partition_walk.proofs.Found.{IsFound, found_at, entry_of}
+use Rattle.partition_walk.proofs.Found.{found_at, entry_of}
 use Rattle.mica_words.specs.Entry.{entry_offset}
 
 abbrev offsets_of : List Record → List ℕ
