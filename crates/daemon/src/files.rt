@@ -3,11 +3,15 @@ ghost use Rattle.std.specs.Prelude.{◌≡◌, ◌<◌, ◌≤◌, ℕ, List, Op
 ghost use Rattle.outside.specs.Faults.{Rose, faults_after};
 ghost use Rattle.daemon.specs.Files.{ReadScript, is_next_failing, after_read, has_failed, Foretells};
 
-use outside::ReadFault;
+use named_files::Place;
+use outside::{NoMemory, ReadFault};
 use std::alloc::Global;
 
 /// What reads files by their names.
 pub trait Files {
+    /// A file that has to survive a crash.
+    type Place: Place + Drop;
+
     /// The bytes of the file of a name, where they are told.
     ghost file: { Self → List ℕ → Option (List ℕ) };
 
@@ -23,6 +27,9 @@ pub trait Files {
     /// How many bytes of memory are free, or `None` where that is not known.
     fn free_memory(&self, alloc: Global) -> Option<u64>
         ensures { IfSome (free self.now) (λ told. result ≡ Some told) };
+
+    /// The file of this name, as one that has to survive a crash.
+    fn place(&self, alloc: Global, name: &str) -> Result<Self::Place, NoMemory>;
 
     /// All bytes of the file of this name. A file that can't be opened is a read that failed.
     fn read(&mut self, alloc: Global, name: &str, limit: usize) -> Result<Vec<u8>, ReadFault>

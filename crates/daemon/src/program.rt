@@ -74,12 +74,20 @@ fn answer<K: Sink>(question: Question, sink: &mut K) -> Ending
 }
 
 // Runs the server that words give which ask no question.
-fn serve_words<W: Threads + Wait + Sync, F: Files, K: Sink + Drop, N: Net, L: Listeners, G: Gate>(
+fn serve_words<
+    W: Threads + Wait + Sync,
+    F: Files,
+    K: Sink + Drop,
+    C: Clock + Drop,
+    N: Net,
+    L: Listeners,
+    G: Gate,
+>(
     process: &Process<W, G>,
     start: Start,
     words: &[String],
     files: &mut F,
-    speaker: &mut Speaker<K>,
+    speaker: &mut Speaker<K, F::Place, C>,
     net: &mut N,
     listeners: &mut L,
     left: &mut Left,
@@ -115,6 +123,7 @@ pub fn answer_or_serve<
     W: Threads + Wait + Sync,
     F: Files,
     K: Sink + Drop,
+    C: Clock + Drop,
     N: Net,
     L: Listeners,
     G: Gate,
@@ -123,7 +132,7 @@ pub fn answer_or_serve<
     start: Start,
     words: &[String],
     files: &mut F,
-    speaker: &mut Speaker<K>,
+    speaker: &mut Speaker<K, F::Place, C>,
     net: &mut N,
     listeners: &mut L,
     left: &mut Left,
@@ -149,14 +158,14 @@ pub fn run_daemon<
     K: Sink + Drop,
     N: Net,
     L: Listeners,
-    C: Clock,
+    C: Clock + Drop,
     G: Gate,
 >(
     process: &Process<W, G>,
     args: io::Result<Args>,
     clock: &mut C,
     files: &mut F,
-    speaker: &mut Speaker<K>,
+    speaker: &mut Speaker<K, F::Place, C>,
     net: &mut N,
     listeners: &mut L,
     left: &mut Left,

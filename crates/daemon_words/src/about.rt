@@ -45,6 +45,7 @@ Items
       --mode cache          a set always finds room: the oldest items go [beside memcached's clients]
   -M, --mode store          none goes before its time: a set without room is refused
       --image FILE          a store begins with the pairs of this image
+      --save FILE           at its end the items of memcached's clients are saved here, and its next start loads them
       --tries N             how often a get is tried beside a writer, 1 to 1000 [100]
       --wear N              the writes that a partition bears [4611686018427387904]
 

@@ -22,9 +22,11 @@ pub struct DaemonOptions<'a> {
     pub streams: StreamOptions,
     /// The file whose image fills the store.
     pub image: Option<&'a str>,
+    /// The file that keeps the items from one run to the next, of memcached's clients alone.
+    pub save: Option<&'a str>,
 }
 
-static DAEMON_OPTIONS: [&str; 20] = [
+static DAEMON_OPTIONS: [&str; 21] = [
     "mode",
     "partitions",
     "buckets",
@@ -36,6 +38,7 @@ static DAEMON_OPTIONS: [&str; 20] = [
     "port",
     "fronts",
     "image",
+    "save",
     "memcached",
     "threads",
     "listen",
@@ -150,7 +153,11 @@ fn daemon_options<'a>(found: &ArgMatches<'a>, processors: u32) -> Option<DaemonO
     let ports = ports_given(found)?;
     let streams = streams_given(found, processors)?;
     let image = found.get_str("image");
+    let save = found.get_str("save");
     if options.mode == Mode::Cache && image.is_some() {
+        return None;
+    }
+    if save.is_some() && (ports.fronts > 0 || image.is_some()) {
         return None;
     }
     Some(DaemonOptions {
@@ -158,6 +165,7 @@ fn daemon_options<'a>(found: &ArgMatches<'a>, processors: u32) -> Option<DaemonO
         ports,
         streams,
         image,
+        save,
     })
 }
 

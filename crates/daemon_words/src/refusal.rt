@@ -38,6 +38,7 @@ pub(crate) enum Refusal<'a> {
     FewBuffers(&'a str),
     NoMode,
     ImageInCache,
+    SaveBesideImage,
 }
 
 impl fmt::Display for Refusal<'_> {
@@ -91,6 +92,9 @@ impl fmt::Display for Refusal<'_> {
                 "--port is of batches over UDP and wants --mode cache or --mode store beside it; memcached's clients want -p",
             ),
             Refusal::ImageInCache => f.write_str("--image fills a store: give --mode store"),
+            Refusal::SaveBesideImage => f.write_str(
+                "--save begins with the items that it saved: leave --image out",
+            ),
         }
     }
 }

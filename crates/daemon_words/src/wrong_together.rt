@@ -71,6 +71,7 @@ fn of_another_protocol(words: &[String]) -> Option<Refusal<'static>> {
         "--idle-timeout",
         "--item-size",
         "--buffers",
+        "--save",
     ] {
         if gives(words, name) {
             return Some(Refusal::Apart(*name));
@@ -131,6 +132,9 @@ pub(crate) fn wrong_together<'a>(words: &'a [String]) -> Refusal<'a> {
     }
     if gives(words, "--port") && !gives(words, "--mode") {
         return Refusal::NoMode;
+    }
+    if gives(words, "--save") && gives(words, "--image") {
+        return Refusal::SaveBesideImage;
     }
     if let Some(refusal) = few_buffers(words) {
         return refusal;

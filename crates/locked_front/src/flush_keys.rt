@@ -41,7 +41,7 @@ fn seek_end(hash: u64, partitions: u32, buckets: u32, partition: u32) -> Option<
 
 /// Makes a key in bucket 0 of the partition, that no line can spell, and that says when it flushes. It is sought until one is found: of so many numbers as a key has
 /// room for none is known to lead there.
-pub(crate) fn make_key<R: Wait>(
+pub fn make_key<R: Wait>(
     rt: &R,
     options: &Options,
     partition: u32,

@@ -16,6 +16,7 @@ mod part;
 mod returned;
 
 pub use counts::{HistoryCounts, Learned};
+pub use flush_keys::make_key;
 pub use flushes::write_counted;
 pub use front::LockedFront;
 pub use locks::{PartitionLock, PartitionLocks};

@@ -204,6 +204,7 @@ impl<J: ServerPlan, P: LendPartition<Reader = ReaderSeat, Note = Note> + Drop> O
             number: self.number,
             part: self.part,
             book: self.book,
+            flushes: self.flushes,
         }
     }
 

@@ -6,6 +6,7 @@ ghost use Rattle.locked_front.specs.Returned.{TookIn};
 
 use crate::owned::Step;
 use crate::part::LockedPart;
+use fronts::KeptFlushes;
 use partition_table::{Note, ReaderSeat};
 use partition_words::LendPartition;
 use turn_book::TurnBook;
@@ -16,6 +17,7 @@ pub struct Returned<P: LendPartition<Reader = ReaderSeat, Note = Note> + Drop> {
     pub number: u32,
     pub part: P,
     pub book: TurnBook<Step>,
+    pub flushes: KeptFlushes,
 }
 
 impl<P: LendPartition<Reader = ReaderSeat, Note = Note> + Drop> Returned<P> {

@@ -87,7 +87,7 @@ fn bind_and_serve<
         Err(_) => return Err(Stop::Unheard(0)),
     }
     announce.ready(ports, places, ends.as_slice(), connections.as_slice())?;
-    let totals = serve_all(shared, server, ends, connections, left)?;
+    let totals = serve_all(shared, server, ends, connections, announce, left)?;
     Ok(totals)
 }
 

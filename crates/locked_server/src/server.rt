@@ -15,6 +15,7 @@ ghost use Rattle.locked_server.specs.Running.{RanBeside};
 ghost use Rattle.locked_server.specs.Taking.{left_view};
 ghost use Rattle.locked_server.specs.Server.{IsKindRoom, IsRoom, IsLockedServer};
 
+use crate::announce::Announce;
 use crate::answers::sum_up_beside;
 use crate::left::Left;
 use crate::opening::{FilledPart, lend_hands, lock_parts};
@@ -220,11 +221,13 @@ pub(crate) fn serve_all<
     D: Datagrams + Drop + Send,
     C: Connections + Send,
     G: Gate,
+    A: Announce,
 >(
     shared: &Shared<W, G>,
     server: LockedServer<J, P, D, C>,
     ends: &mut Vec<D>,
     connections: &mut Vec<C>,
+    announce: &mut A,
     left: &mut Left,
 ) -> Result<Totals, ServeFault>
     requires same { (p : P) → P.state p ≡ P.owner p }
@@ -249,6 +252,6 @@ pub(crate) fn serve_all<
     } = run_all(shared, server, ends, connections);
     left.lacked = lacked;
     let totals = sum_up_beside(streams.as_slice(), fronts.as_slice())?;
-    keep_all(parts, &mut left.tables);
+    keep_all(parts, announce, &mut left.tables);
     Ok(totals)
 }

@@ -6,8 +6,9 @@ ghost use Rattle.partition_table.specs.Tabled.{kept_seat_in};
 ghost use Rattle.locked_front.specs.Owned.{Owned, IsOwned};
 ghost use Rattle.locked_server.specs.Taking.{AreHands, AreTakenBack, TakesBack, MayTakeHand, TakesHand, MayTakeHands, TakesHands, left_view};
 
+use crate::announce::Announce;
 use any_partition::OnTable;
-use locked_front::{LockedPart, PartitionLocks, Returned, ServerPlan};
+use locked_front::{HistoryCounts, LockedPart, PartitionLocks, Returned, ServerPlan};
 use partition_table::{Note, ReaderSeat, Tables};
 use partition_words::LendPartition;
 use std::sync::Wait;
@@ -83,8 +84,9 @@ pub(crate) fn take_in_all<
 }
 
 /// Keeps the owners' seats, in order.
-pub(crate) fn keep_all<P: OnTable + LendPartition<Reader = ReaderSeat, Note = Note>>(
+pub(crate) fn keep_all<P: OnTable + LendPartition<Reader = ReaderSeat, Note = Note>, A: Announce>(
     parts: Vec<Returned<P>>,
+    announce: &mut A,
     tables: &mut Tables,
 )
     requires same { (p : P) → P.state p ≡ P.owner p }
@@ -94,6 +96,7 @@ pub(crate) fn keep_all<P: OnTable + LendPartition<Reader = ReaderSeat, Note = No
 {
     let mut rest = parts.into_iter();
     while let Some(left) = rest.next() {
-        tables.keep(left.part.into_seat());
+        let counts = HistoryCounts::of(&left.part, &left.flushes);
+        tables.keep(announce.leaves(left.part.into_seat(), counts));
     }
 }

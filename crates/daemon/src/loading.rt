@@ -1,0 +1,146 @@
+//! What was saved, as writes that fill the partitions.
+
+use kept_items::Lasting;
+use locked_front::make_key;
+use outside::{Bytes, NoMemory, Source};
+use partition_model::{ItemBuf, Op, Options, Write};
+use saved_items::{
+    Closing, Refused, SavedFault, SavedPair, SavedReader, TakesEntries, read_entries, read_head,
+};
+use std::alloc::Global;
+use std::sync::Wait;
+
+/// What fills the partitions, and the first unique number that none of it has.
+#[derive(Drop)]
+pub(crate) struct Loaded {
+    pub writes: Vec<Write>,
+    pub next: u64,
+}
+
+// The writes so far, and of each partition the second of the flush that waits.
+#[derive(Drop)]
+struct Loading {
+    alloc: Global,
+    writes: Vec<Write>,
+    untils: Vec<u64>,
+    has_memory: bool,
+}
+
+fn put_of(alloc: Global, pair: &SavedPair) -> Result<Write, NoMemory> {
+    Ok(Write {
+        op: Op::Put,
+        key: Bytes::copy(alloc, pair.key.as_slice())?,
+        value: Bytes::copy(alloc, pair.value.as_slice())?,
+    })
+}
+
+impl Loading {
+    fn add(&mut self, pair: &SavedPair) -> Result<(), NoMemory> {
+        let write = put_of(self.alloc, pair)?;
+        self.writes.push(write)?;
+        Ok(())
+    }
+}
+
+impl TakesEntries for Loading {
+    ghost use Rattle.std.specs.Prelude.{⊤};
+
+    ghost takes = { λ _ _ _. ⊤ };
+
+    fn pair(&mut self, pair: &SavedPair) -> Result<(), Refused> {
+        self.has_memory = self.add(pair).is_ok();
+        if self.has_memory {
+            Ok(())
+        } else {
+            Err(Refused)
+        }
+    }
+
+    fn close(&mut self, closing: Closing) -> Result<(), Refused> {
+        self.has_memory = self.untils.push(closing.until).is_ok();
+        if self.has_memory {
+            Ok(())
+        } else {
+            Err(Refused)
+        }
+    }
+}
+
+// Asks again for the flush that waited in a partition.
+fn flush_again<R: Wait>(
+    rt: &R,
+    alloc: Global,
+    options: &Options,
+    partition: u32,
+    due: u64,
+    second: u64,
+) -> Result<Write, NoMemory> {
+    let mut key = ItemBuf::new(alloc)?;
+    make_key(rt, options, partition, due, second, &mut key);
+    Ok(Write {
+        op: Op::Del,
+        key: Bytes::copy(alloc, key.value())?,
+        value: Bytes::empty(alloc),
+    })
+}
+
+// Where there are as many partitions as before, each has its own; else each has the last one of all.
+fn due_in(untils: &[u64], partitions: u32, partition: u32) -> u64 {
+    if untils.len() == partitions as usize {
+        return untils.get(partition as usize).copied().unwrap_or(0);
+    }
+    untils.iter().copied().max().unwrap_or(0)
+}
+
+/// What a file of saved items fills the partitions with at a second.
+pub(crate) fn load<R: Wait, S: Source>(
+    rt: &R,
+    alloc: Global,
+    source: &mut S,
+    options: &Options,
+    second: u64,
+) -> Result<Loaded, SavedFault> {
+    let mut reader = SavedReader::new(alloc)?;
+    let head = read_head(alloc, source, &mut reader)?;
+    // by the server's clock no second passed twice, whatever the machine's says
+    let second = second.max(head.second);
+    let mut pair = SavedPair::new(alloc);
+    let mut lasting = Lasting {
+        taker: Loading {
+            alloc,
+            writes: Vec::new(alloc),
+            untils: Vec::new(alloc),
+            has_memory: true,
+        },
+        second,
+        next: 0,
+    };
+    let read = read_entries(
+        source,
+        &mut reader,
+        head.partitions,
+        &mut pair,
+        &mut lasting,
+    );
+    let Lasting {
+        taker: Loading {
+            mut writes,
+            untils,
+            has_memory,
+            ..
+        },
+        next,
+        ..
+    } = lasting;
+    if !has_memory {
+        return Err(SavedFault::NoMemory);
+    }
+    read?;
+    for partition in 0..options.partitions {
+        let due = due_in(untils.as_slice(), options.partitions, partition);
+        if due > second {
+            writes.push(flush_again(rt, alloc, options, partition, due, second)?)?;
+        }
+    }
+    Ok(Loaded { writes, next })
+}
