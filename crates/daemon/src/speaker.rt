@@ -3,14 +3,10 @@ ghost use Rattle.std.specs.Prelude.{◌≡◌, ◌+◌, ◌≤◌, string_bytes,
 ghost use Rattle.server_words.specs.PossiblePorts.{IsPossiblePorts};
 ghost use Rattle.daemon.specs.Daemon.{place_text, port_text, range_text, ready_text, unbound_text};
 
-use crate::saving::Saving;
 use connections::Connections;
 use daemon_words::StreamPorts;
-use locked_front::HistoryCounts;
 use locked_server::{Announce, Untold};
-use named_files::Place;
-use outside::{Clock, Datagrams, NoMemory, Sink, write_all};
-use partition_table::OwnerSeat;
+use outside::{Datagrams, NoMemory, Sink, write_all};
 use server_words::PortOptions;
 use std::alloc::Global;
 use std::net::Ipv4Addr;
@@ -58,29 +54,21 @@ pub enum Doubt {
 
 /// A sink, and the line that says that the ports are had; and for whoever started the server, why it ended.
 #[derive(Drop)]
-pub struct Speaker<K, P, C> {
+pub struct Speaker<K> {
     pub sink: K,
-    /// Tells at which second items are saved.
-    pub clock: C,
-    /// What the items are saved with, where they are.
-    pub saving: Option<Saving<P>>,
-    alloc: Global,
     pub line: String,
     /// A sentence, or nothing where there is none.
     pub reason: String,
     pub doubt: Doubt,
 }
 
-impl<K: Sink + Drop, P: Place + Drop, C: Clock + Drop> Speaker<K, P, C> {
+impl<K: Sink + Drop> Speaker<K> {
     /// One that has said nothing.
-    pub fn new(alloc: Global, sink: K, clock: C) -> Speaker<K, P, C>
+    pub fn new(alloc: Global, sink: K) -> Speaker<K>
         ensures { result.sink ≡ sink }
     {
         Speaker {
             sink,
-            clock,
-            saving: None,
-            alloc,
             line: String::new(alloc),
             reason: String::new(alloc),
             doubt: Doubt::Nothing,
@@ -88,7 +76,7 @@ impl<K: Sink + Drop, P: Place + Drop, C: Clock + Drop> Speaker<K, P, C> {
     }
 }
 
-impl<K: Sink + Drop, P: Place + Drop, T: Clock + Drop> Announce for Speaker<K, P, T> {
+impl<K: Sink + Drop> Announce for Speaker<K> {
     ghost use Rattle.std.specs.Prelude.{string_bytes};
     ghost use Rattle.server_words.specs.Output.{sink_facts};
     ghost use Rattle.daemon.specs.Daemon.{Says, FailsToSay};
@@ -104,21 +92,9 @@ impl<K: Sink + Drop, P: Place + Drop, T: Clock + Drop> Announce for Speaker<K, P
         _ends: &[D],
         _connections: &[C],
     ) -> Result<(), Untold> {
-        if let Some(saving) = &mut self.saving {
-            if saving.use_up().is_err() {
-                return Err(Untold);
-            }
-        }
         match write_all(&mut self.sink, self.line.as_bytes()) {
             Ok(()) => Ok(()),
             Err(_) => Err(Untold),
-        }
-    }
-
-    fn leaves(&mut self, seat: OwnerSeat, counts: HistoryCounts) -> OwnerSeat {
-        match &mut self.saving {
-            Some(saving) => saving.save(&mut self.clock, seat, counts, self.alloc),
-            None => seat,
         }
     }
 }

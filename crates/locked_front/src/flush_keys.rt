@@ -1,5 +1,5 @@
 //! Keys of flushes.
-ghost use Rattle.std.specs.Prelude.{◌≡◌, ◌<◌, ◌++◌, ◌∷◌, [], ℕ, true, List, IfSome};
+ghost use Rattle.std.specs.Prelude.{◌≡◌, ◌<◌, ◌++◌, ◌∷◌, [], ℕ, true, length, List, IfSome};
 ghost use Rattle.mica_words.specs.Hash.{bucket_of, fnv1a, partition_of};
 ghost use Rattle.mica_words.specs.Item.{KeyFits};
 ghost use Rattle.fronts.specs.Flushes.{begins_with_feed, flush_in};
@@ -39,6 +39,15 @@ fn seek_end(hash: u64, partitions: u32, buckets: u32, partition: u32) -> Option<
     None
 }
 
+// What stands behind the two seconds: a number, and zeros up to the longest length of a key but two, which no client's key has.
+const NUMBER_LEN: usize = 236;
+
+fn numbered(number: u32) -> [u8; NUMBER_LEN] {
+    let mut piece = [0; NUMBER_LEN];
+    piece[..4].copy_from_slice(&number.to_le_bytes());
+    piece
+}
+
 /// Makes a key in bucket 0 of the partition, that no line can spell, and that says when it flushes. It is sought until one is found: of so many numbers as a key has
 /// room for none is known to lead there.
 pub fn make_key<R: Wait>(
@@ -53,6 +62,7 @@ pub fn make_key<R: Wait>(
     requires buckets { 0 < options.now.buckets }
     ensures feed { begins_with_feed key.new ≡ true }
     ensures fits { KeyFits key.new }
+    ensures long { length key.new ≡ 255 }
     ensures flush { flush_in key.new ≡ record { due = due; asked = asked } }
     ensures partition { partition_of key.new options.now.partitions ≡ partition }
     ensures bucket { bucket_of key.new options.now.buckets ≡ 0 }
@@ -68,7 +78,7 @@ pub fn make_key<R: Wait>(
         key.extend(b"\n");
         key.push_word(due);
         key.push_word(asked);
-        key.extend(&number.to_le_bytes());
+        key.extend(&numbered(number));
         if let Some(end) = seek_end(key_hash(key.value()), partitions, buckets, partition) {
             key.extend(&end);
             return;

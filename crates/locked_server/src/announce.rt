@@ -6,12 +6,10 @@ ghost use Rattle.locked_server.specs.Streams.{AreUnserved, stream_facts};
 
 use crate::stop::Untold;
 use connections::Connections;
-use locked_front::HistoryCounts;
 use outside::Datagrams;
-use partition_table::OwnerSeat;
 use server_words::PortOptions;
 
-/// What a server tells once it has all its ports, and before it receives anything; and who sees what it leaves.
+/// What a server tells once it has all its ports, and before it receives anything.
 pub trait Announce {
     /// What telling it makes of this.
     ghost says: { PortOptions → ℕ → Self → Self → Type 0 };
@@ -33,7 +31,4 @@ pub trait Announce {
         requires fresh { AreUnserved (map (stream_facts C.Connections) connections.now) }
         ensures said { OnOk result (says ports.now places self.old self.new) }
         ensures failed { OnErr result (fails ports.now places self.old self.new) };
-
-    /// The fronts have ended, and this is left of a partition, with what was counted there. The words stay as they are.
-    fn leaves(&mut self, seat: OwnerSeat, counts: HistoryCounts) -> OwnerSeat;
 }
