@@ -196,14 +196,7 @@ fn serve_on<
 /// Fills the partitions by these writes, binds a port for each front of datagrams, listens at the place of connections for a share for each front of these, and tells
 /// so. Then all fronts run side by side, each in a thread of its own, and each is the owner of a partition for as long as one write takes. All ends and shares are released. The owners' seats are kept, in the order of the partitions, where no front failed. Whatever
 /// the answer, `left.lacked` says how many connections were closed since there was no memory for them.
-pub fn serve_locked<
-    W: Threads + Wait + Sync,
-    N: Net,
-    L: Listeners,
-    G: Gate,
-    A: Announce,
-    V: Keeps,
->(
+pub fn serve_locked<W: Threads + Wait + Sync, N: Net, L: Listeners, G: Gate, A: Announce, V: Keeps>(
     shared: &Shared<W, G>,
     filling: Vec<Write>,
     net: &mut N,

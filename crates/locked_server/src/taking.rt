@@ -92,10 +92,7 @@ pub(crate) fn take_in_all<
 }
 
 /// Shows the owners' seats to the keeper, and keeps them, in order.
-pub(crate) fn keep_all<
-    P: OnTable + LendPartition<Reader = ReaderSeat, Note = Note>,
-    V: Keeps,
->(
+pub(crate) fn keep_all<P: OnTable + LendPartition<Reader = ReaderSeat, Note = Note>, V: Keeps>(
     parts: Vec<Returned<P>>,
     left: &mut Left<V>,
 )
