@@ -74,20 +74,12 @@ fn answer<K: Sink>(question: Question, sink: &mut K) -> Ending
 }
 
 // Runs the server that words give which ask no question.
-fn serve_words<
-    W: Threads + Wait + Sync,
-    F: Files,
-    K: Sink + Drop,
-    C: Clock + Drop,
-    N: Net,
-    L: Listeners,
-    G: Gate,
->(
+fn serve_words<W: Threads + Wait + Sync, F: Files, K: Sink + Drop, N: Net, L: Listeners, G: Gate>(
     process: &Process<W, G>,
     start: Start,
     words: &[String],
     files: &mut F,
-    speaker: &mut Speaker<K, F::Place, C>,
+    speaker: &mut Speaker<K>,
     net: &mut N,
     listeners: &mut L,
     left: &mut Left,
@@ -123,7 +115,6 @@ pub fn answer_or_serve<
     W: Threads + Wait + Sync,
     F: Files,
     K: Sink + Drop,
-    C: Clock + Drop,
     N: Net,
     L: Listeners,
     G: Gate,
@@ -132,7 +123,7 @@ pub fn answer_or_serve<
     start: Start,
     words: &[String],
     files: &mut F,
-    speaker: &mut Speaker<K, F::Place, C>,
+    speaker: &mut Speaker<K>,
     net: &mut N,
     listeners: &mut L,
     left: &mut Left,
@@ -158,14 +149,14 @@ pub fn run_daemon<
     K: Sink + Drop,
     N: Net,
     L: Listeners,
-    C: Clock + Drop,
+    C: Clock,
     G: Gate,
 >(
     process: &Process<W, G>,
     args: io::Result<Args>,
     clock: &mut C,
     files: &mut F,
-    speaker: &mut Speaker<K, F::Place, C>,
+    speaker: &mut Speaker<K>,
     net: &mut N,
     listeners: &mut L,
     left: &mut Left,

@@ -45,11 +45,11 @@ pub(crate) fn shortage_reason<F: Files>(
 }
 
 /// Notes why a file gave nothing that fills the partitions.
-pub(crate) fn note_image<K: Sink + Drop, P, C>(
+pub(crate) fn note_image<K: Sink + Drop>(
     alloc: Global,
     image: Option<&str>,
     status: DaemonStatus,
-    speaker: &mut Speaker<K, P, C>,
+    speaker: &mut Speaker<K>,
 )
     ensures { speaker.new.sink ≡ speaker.old.sink }
 {
@@ -91,8 +91,6 @@ fn plain_reason(status: DaemonStatus) -> &'static str {
         DaemonStatus::ImageRefused =>
             "a partition has no room for all of the image: give more memory",
         DaemonStatus::UsedUp => "its ports have taken all that can be counted",
-        DaemonStatus::SaveFault =>
-            "the file of --save could not be written, or another server has it",
         DaemonStatus::Stopped => "",
     }
 }

@@ -15,7 +15,6 @@ ghost use Rattle.daemon.specs.Daemon.{HasMemory, WritesLast, ServesAloud, Serves
 
 use crate::board::board_of;
 use crate::filling::filling_of;
-use crate::kept::{begin_kept, end_kept};
 use crate::output::{print_totals, write_due};
 use crate::places::{buffers_of, places_of};
 use crate::process::{Process, Start};
@@ -26,9 +25,8 @@ use connections::Listeners;
 use daemon_words::{DaemonOptions, StreamOptions, read_daemon};
 use fronts::ServeFault;
 use locked_server::{Left, Service, Shared, Stop, serve_locked};
-use named_files::Place;
 use option_words::WordsFault;
-use outside::{Clock, Gate, Net, NoMemory, Sink};
+use outside::{Gate, Net, NoMemory, Sink};
 use partition_model::{Options, Write};
 use partition_sizes::start_bytes;
 use server_words::PortOptions;
@@ -70,20 +68,12 @@ fn status_at_totals(stopping: &AtomicBool) -> DaemonStatus
 }
 
 // Serves, with the line to be written at hand.
-fn serve_aloud<
-    W: Threads + Wait + Sync,
-    K: Sink + Drop,
-    P: Place + Drop,
-    C: Clock + Drop,
-    N: Net,
-    L: Listeners,
-    G: Gate,
->(
+fn serve_aloud<W: Threads + Wait + Sync, K: Sink + Drop, N: Net, L: Listeners, G: Gate>(
     shared: &Shared<W, G>,
     stopping: &AtomicBool,
     streams: &StreamOptions,
     filling: Vec<Write>,
-    speaker: &mut Speaker<K, P, C>,
+    speaker: &mut Speaker<K>,
     net: &mut N,
     listeners: &mut L,
     left: &mut Left,
@@ -133,22 +123,14 @@ fn serve_aloud<
 }
 
 // Serves at the places that the words give, where there is memory for these and for the line.
-fn stay_up<
-    W: Threads + Wait + Sync,
-    K: Sink + Drop,
-    P: Place + Drop,
-    C: Clock + Drop,
-    N: Net,
-    L: Listeners,
-    G: Gate,
->(
+fn stay_up<W: Threads + Wait + Sync, K: Sink + Drop, N: Net, L: Listeners, G: Gate>(
     process: &Process<W, G>,
     start: Start,
     options: &Options,
     ports: &PortOptions,
     streams: &StreamOptions,
     filling: Vec<Write>,
-    speaker: &mut Speaker<K, P, C>,
+    speaker: &mut Speaker<K>,
     net: &mut N,
     listeners: &mut L,
     left: &mut Left,
@@ -216,20 +198,12 @@ fn has_memory<F: Files>(alloc: Global, files: &F, options: &Options) -> bool
 /// counted, and each connection until it ends. It writes one line once it has all ports, and one at its end. Where they take more memory than is free, it ends at once.
 /// `start` has the unique number of the first value that a partition takes from a connection. `left.lacked` says how many connections were closed since there was no
 /// memory for them.
-pub fn daemon<
-    W: Threads + Wait + Sync,
-    F: Files,
-    K: Sink + Drop,
-    C: Clock + Drop,
-    N: Net,
-    L: Listeners,
-    G: Gate,
->(
+pub fn daemon<W: Threads + Wait + Sync, F: Files, K: Sink + Drop, N: Net, L: Listeners, G: Gate>(
     process: &Process<W, G>,
     start: Start,
     words: &[String],
     files: &mut F,
-    speaker: &mut Speaker<K, F::Place, C>,
+    speaker: &mut Speaker<K>,
     net: &mut N,
     listeners: &mut L,
     left: &mut Left,
@@ -246,7 +220,6 @@ pub fn daemon<
         ports,
         streams,
         image,
-        save,
     } = match read_daemon(process.alloc, words, process.processors) {
         Ok(read) => read,
         Err(WordsFault::Usage) => return DaemonStatus::Usage,
@@ -255,26 +228,6 @@ pub fn daemon<
     if !has_memory(process.alloc, files, &options) {
         speaker.reason = shortage_reason(process.alloc, files, words, &options);
         return DaemonStatus::NoMemory;
-    }
-    if let Some(name) = save {
-        return match begin_kept(process, start, files, name, &options, speaker) {
-            Ok(begun) => {
-                let status = stay_up(
-                    process,
-                    begun.start,
-                    &options,
-                    &ports,
-                    &streams,
-                    begun.filling,
-                    speaker,
-                    net,
-                    listeners,
-                    left,
-                );
-                end_kept(status, speaker)
-            }
-            Err(status) => status,
-        };
     }
     match filling_of(process.alloc, files, image, &mut speaker.sink) {
         Ok(filling) => stay_up(

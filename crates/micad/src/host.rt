@@ -14,7 +14,6 @@ use host_outside::{StdClock, StdSink, UdpNet};
 use locked_server::Left;
 use outside::{FreeGate, NoMemory, rehearse};
 use std::env::Args;
-use std::fs::File;
 use std::net::Net as Sockets;
 use std::process::ExitCode;
 use std::rt::{Env, Files};
@@ -25,9 +24,9 @@ use std::{io, time};
 use tcp_connections::{Refused, TcpListeners};
 
 /// Says on standard error why the program ends, where there is a reason. What can't be said is left out.
-fn say_why<R: AllocGlobal + Eprint + Sockets + Files, K, P, C>(
+fn say_why<R: AllocGlobal + Eprint + Sockets + Files, K>(
     rt: &R,
-    speaker: &Speaker<K, P, C>,
+    speaker: &Speaker<K>,
     refused: Option<&Refused>,
 ) {
     if let Some(refused) = refused {
@@ -77,9 +76,10 @@ pub fn processors_of<R: Threads>(rt: &R) -> u32 {
 }
 
 /// What the program ends with before it serves: where it may not begin, or there is no thread for the look for signals.
-pub fn refused_on_host<
-    R: Threads + Wait + Sync + AllocGlobal + Env + Eprint + Files<File = File> + Sockets,
->(rt: &R, machine: Machine) -> Option<ExitCode>
+pub fn refused_on_host<R: Threads + Wait + Sync + AllocGlobal + Env + Eprint + Files + Sockets>(
+    rt: &R,
+    machine: Machine,
+) -> Option<ExitCode>
     ensures ends { IfSome result (λ code. (words : Option (List (List ℕ))) → EndsBy words (exit_status code)) }
     ensures in_vain { IfSome result (λ code. 0 < exit_status code) }
 {
@@ -95,15 +95,7 @@ pub fn refused_on_host<
 /// Answers the words that the program was started with, or serves by them, at the doors that they ask for beside the place's own, and then says why that ended. It ends with 0 where these ask a question, and where a
 /// signal asked for its end. `main` runs it beside the look for signals: a handle that opens files goes to a thread only there.
 pub fn run_on_host<
-    R: Threads
-        + Wait
-        + Sync
-        + AllocGlobal
-        + Eprint
-        + Files<File = File>
-        + Print
-        + Sockets
-        + time::Clock,
+    R: Threads + Wait + Sync + AllocGlobal + Eprint + Files + Print + Sockets + time::Clock,
 >(rt: &R, args: io::Result<Args>, machine: Machine, flags: &Flags, asked: Asked) -> ExitCode
     ensures { EndsBy (words_of string_bytes args) (exit_status result) }
 {
@@ -119,7 +111,7 @@ pub fn run_on_host<
         pid: machine.process,
         processors: machine.processors,
     };
-    let mut speaker = Speaker::new(alloc, StdSink::new(io::writer(rt)), clock);
+    let mut speaker = Speaker::new(alloc, StdSink::new(io::writer(rt)));
     let mut listeners = TcpListeners::new(rt, alloc, clock, &flags.ended, &flags.stopping);
     listeners.set_doors(asked.doors, asked.idle);
     let code = run_daemon(

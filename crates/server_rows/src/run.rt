@@ -140,7 +140,7 @@ fn run(
         at_least_one(row.number("sink", 1, 5)),
         &[row.number("sink", 2, 0)],
     )?;
-    let mut speaker = Speaker::new(alloc, sink, MemClock::new(&[]));
+    let mut speaker = Speaker::new(alloc, sink);
     let process = Process {
         rt,
         alloc,

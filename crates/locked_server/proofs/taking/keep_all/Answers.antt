@@ -1,4 +1,4 @@
-use Rattle.std.proofs.Common.{◌≡◌, ℕ, suc, ◌+◌, ◌≤◌, ◌++◌, ◌∷◌, [], Some, List, map, length, slice_get, refl, sym, ap, ◌∙◌, subst, arith, append_assoc}
+use Rattle.std.proofs.Common.{◌≡◌, ℕ, suc, ◌+◌, ◌≤◌, ◌++◌, ◌∷◌, [], Some, None, List, map, length, slice_get, refl, sym, ap, ◌∙◌, subst, arith, append_assoc}
 use Rattle.std.specs.Option.{option_to_list}
 use Rattle.std.specs.Vec.Iter.{into_iter_items}
 use Rattle.std.proofs.lemmas.List.{length_push}
@@ -37,3 +37,62 @@ loop-back-init g c =
       shown = λ end shown. shown;
       kept = refl;
     }
+
+-- the partition at the front of those that are left
+module _ (g : given.Over) (c : After-next g) where
+  head : (part : Returned g.row.P.Denot) → c.next.result ≡ Some part → into_iter_items c.loop-back.rest ≡ part ∷ into_iter_items c.next.new.self
+  head part is = c.next.ensures.items ∙ ap (λ o. option_to_list o ++ into_iter_items c.next.new.self) is
+
+pub of-counts-requires : goal.of-counts-requires
+of-counts-requires g c =
+    let z = (goal.at.of-counts-requires g c).After-next in
+    All-head _ c.in-Some.back (into_iter_items c.next.new.self) (subst (AreCounted g.P.Partition.owner) (head g z c.in-Some.back c.in-Some.is) c.loop-back.invariant.counted)
+
+pub show-seat-requires-clause-idle : goal.show-seat-requires-clause-idle
+show-seat-requires-clause-idle g c =
+    let z = (goal.at.show-seat-requires-clause-idle g c).After-next in
+    let part = c.in-Some.back in
+    ap (λ (o : OwnerState). o.phase) (c.into_seat.ensures ∙ c.requires.same part.part)
+    ∙ c.loop-back.invariant.idle 0 (view g part) (ap (λ l. slice_get (map (view g) l) 0) (head g z part c.in-Some.is))
+
+pub show-seat-requires-clause-counts : goal.show-seat-requires-clause-counts
+show-seat-requires-clause-counts g c =
+    c.of-counts.ensures ∙ ap (λ (o : OwnerState). counts_after (options_in o) o.history) (sym (c.into_seat.ensures ∙ c.requires.same c.in-Some.back.part))
+
+pub keep-requires-clause-idle : goal.keep-requires-clause-idle
+keep-requires-clause-idle g c =
+    let z = (goal.at.keep-requires-clause-idle g c).After-next in
+    let part = c.in-Some.back in
+    ap (λ (o : OwnerState). o.phase) (c.show-seat.ensures.same ∙ c.into_seat.ensures ∙ c.requires.same part.part)
+    ∙ c.loop-back.invariant.idle 0 (view g part) (ap (λ l. slice_get (map (view g) l) 0) (head g z part c.in-Some.is))
+
+pub loop-back-preserved : goal.loop-back-preserved
+loop-back-preserved g c =
+    let z = (goal.at.loop-back-preserved g c).After-next in
+    let i = c.loop-back.invariant in
+    let rest = into_iter_items c.next.new.self in
+    let part = c.in-Some.back in
+    let first = head g z part c.in-Some.is in
+    let entry = kept_seat_in (view g part).owner in
+    let given : owner_state c.into_seat.result ≡ g.P.Partition.owner part.part = c.into_seat.ensures ∙ c.requires.same part.part in
+    let kept : c.keep.new.self ≡ c.loop-back.left.tables ++ entry ∷ [] =
+    c.keep.ensures ∙ ap (λ (o : OwnerState). c.loop-back.left.tables ++ kept_seat_in o ∷ []) (c.show-seat.ensures.same ∙ given) in
+    let one = ap length kept in
+    let two = length_push c.loop-back.left.tables entry in
+    let three = ap length first in
+    let room = i.room in
+    record {
+      room = omega arith;
+      idle = λ p left is. i.idle (suc p) left (ap (λ l. slice_get (map (view g) l) (suc p)) first ∙ is);
+      counted = All-tail _ part rest (subst (AreCounted g.P.Partition.owner) first i.counted);
+      lacked = i.lacked;
+      shown = λ end later. i.shown end (subst (λ (l : List KeptSeat). ShownAll g.V.Keeps.keeps c.loop-back.left.keeper l end) (ap (entries g) (sym first))
+          (c.show-seat.new.self, subst (λ (o : OwnerState). g.V.Keeps.keeps c.loop-back.left.keeper (kept_seat_in o) c.show-seat.new.self) given c.show-seat.ensures.kept, later));
+      kept = ap (λ (l : List KeptSeat). l ++ entries g rest) kept ∙ append_assoc c.loop-back.left.tables (entry ∷ []) (entries g rest)
+          ∙ ap (λ l. c.loop-back.left.tables ++ entries g l) (sym first) ∙ i.kept;
+    }
+
+-- none is left
+module _ (g : given.Over) (c : After-next g) where
+  pub nothing_left : c.next.result ≡ None → into_iter_items c.loop-back.rest ≡ into_iter_items c.next.new.self
+  nothing_left is = c.next.ensures.items ∙ ap (λ o. option_to_list o ++ into_iter_items c.next.new.self) is
