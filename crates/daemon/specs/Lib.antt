@@ -5,3 +5,4 @@ pub mod Files
 pub mod Filling
 pub mod Daemon
 pub mod Headline
+pub mod Saved

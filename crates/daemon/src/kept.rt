@@ -1,29 +1,35 @@
 //! The beginning and the end of a server that keeps its items.
 
-use crate::loading::{Loaded, load};
+use crate::loading::{LoadFault, Loaded, load};
 use crate::output::write_due;
 use crate::saving::Saving;
-use crate::{DaemonStatus, Files, Process, Speaker, Start};
+use crate::{DaemonStatus, Files, Process, Start};
 use named_files::Place;
-use outside::{Clock, NoMemory, Sink, Source};
+use outside::{Sink, Source};
 use partition_model::{Options, Write};
 use saved_items::SavedFault;
 use std::alloc::Global;
 use std::sync::Wait;
 
-/// What fills the partitions, and where numbers begin.
+/// What fills the partitions, where numbers begin, and what is at hand for the end.
 #[derive(Drop)]
-pub(crate) struct Begun {
+pub(crate) struct Begun<P> {
     pub filling: Vec<Write>,
     pub start: Start,
+    pub saving: Saving<P>,
 }
 
 // Writes the line of what is wrong with a file.
-fn refuse<K: Sink>(alloc: Global, sink: &mut K, fault: SavedFault) -> DaemonStatus {
+fn refuse<K: Sink>(alloc: Global, sink: &mut K, fault: LoadFault) -> DaemonStatus {
     match fault {
-        SavedFault::NoMemory => DaemonStatus::NoMemory,
-        SavedFault::Failed => write_due(sink, b"read fault\n", DaemonStatus::ReadFault),
-        _ => match format!(in alloc; "saved items: {fault}\n") {
+        LoadFault::Hashing => {
+            write_due(sink, b"saved items: hashing\n", DaemonStatus::ImageRefused)
+        }
+        LoadFault::Saved(SavedFault::NoMemory) => DaemonStatus::NoMemory,
+        LoadFault::Saved(SavedFault::Failed) => {
+            write_due(sink, b"read fault\n", DaemonStatus::ReadFault)
+        }
+        LoadFault::Saved(fault) => match format!(in alloc; "saved items: {fault}\n") {
             Ok(line) => write_due(sink, line.as_bytes(), DaemonStatus::ImageRefused),
             Err(_) => DaemonStatus::NoMemory,
         },
@@ -43,6 +49,7 @@ fn loaded_of<R: Wait, S: Source + Drop, K: Sink>(
         return Ok(Loaded {
             writes: Vec::new(alloc),
             next: 0,
+            is_there: false,
         });
     };
     let mut source = source;
@@ -60,7 +67,7 @@ fn load_place<W: Wait, P: Place, K: Sink>(
     options: &Options,
     second: u64,
     sink: &mut K,
-) -> Result<(Loaded, bool), DaemonStatus> {
+) -> Result<Loaded, DaemonStatus> {
     match place.lock() {
         Ok(true) => {}
         _ => return Err(write_due(sink, b"save fault\n", DaemonStatus::SaveFault)),
@@ -69,66 +76,33 @@ fn load_place<W: Wait, P: Place, K: Sink>(
         Ok(opened) => opened,
         Err(_) => return Err(write_due(sink, b"read fault\n", DaemonStatus::ReadFault)),
     };
-    let is_there = opened.is_some();
-    let loaded = match loaded_of(rt, alloc, opened, options, second, sink) {
-        Ok(loaded) => loaded,
-        Err(status) => return Err(status),
-    };
-    Ok((loaded, is_there))
+    loaded_of(rt, alloc, opened, options, second, sink)
 }
 
 /// Loads the file of this name, where there is one, and has it at hand for the end. Else what is due is written, and the answer is its status.
-pub(crate) fn begin_kept<W: Wait, G, F: Files, K: Sink + Drop, C: Clock + Drop>(
+pub(crate) fn begin_kept<W: Wait, G, F: Files, K: Sink>(
     process: &Process<W, G>,
     start: Start,
     files: &F,
     name: &str,
     options: &Options,
-    speaker: &mut Speaker<K, F::Place, C>,
-) -> Result<Begun, DaemonStatus> {
-    let mut place = match files.place(process.alloc, name) {
-        Ok(place) => place,
-        Err(NoMemory) => return Err(DaemonStatus::NoMemory),
+    sink: &mut K,
+) -> Result<Begun<F::Place>, DaemonStatus> {
+    let (rt, alloc) = (process.rt, process.alloc);
+    let Ok(mut place) = files.place(alloc, name) else {
+        return Err(DaemonStatus::NoMemory);
     };
-    let (loaded, is_there) = match load_place(
-        process.rt,
-        process.alloc,
-        &mut place,
-        options,
-        start.second,
-        &mut speaker.sink,
-    ) {
-        Ok(pair) => pair,
+    let loaded = match load_place(rt, alloc, &mut place, options, start.second, sink) {
+        Ok(loaded) => loaded,
         Err(status) => return Err(status),
     };
     let base = start.base.max(loaded.next);
-    match Saving::new(process.alloc, place, is_there, options, base) {
-        Ok(saving) => speaker.saving = Some(saving),
-        Err(NoMemory) => return Err(DaemonStatus::NoMemory),
-    }
+    let Ok(saving) = Saving::new(alloc, place, loaded.is_there, options, base) else {
+        return Err(DaemonStatus::NoMemory);
+    };
     Ok(Begun {
         filling: loaded.writes,
-        start: Start {
-            second: start.second,
-            base,
-        },
+        start: Start { base, ..start },
+        saving,
     })
-}
-
-/// Saves at an orderly end. Writes what is due, and says the status.
-pub(crate) fn end_kept<P: Place + Drop, K: Sink + Drop, C: Clock + Drop>(
-    status: DaemonStatus,
-    speaker: &mut Speaker<K, P, C>,
-) -> DaemonStatus {
-    let Some(saving) = &mut speaker.saving else {
-        return status;
-    };
-    match status {
-        DaemonStatus::Stopped | DaemonStatus::UsedUp => {}
-        _ => return status,
-    }
-    if saving.end() {
-        return write_due(&mut speaker.sink, b"saved\n", status);
-    }
-    write_due(&mut speaker.sink, b"save fault\n", DaemonStatus::SaveFault)
 }

@@ -5,16 +5,37 @@ use locked_front::make_key;
 use outside::{Bytes, NoMemory, Source};
 use partition_model::{ItemBuf, Op, Options, Write};
 use saved_items::{
-    Closing, Refused, SavedFault, SavedPair, SavedReader, TakesEntries, read_entries, read_head,
+    Closing, Hashing, Refused, SavedFault, SavedPair, SavedReader, TakesEntries, read_entries,
+    read_head,
 };
 use std::alloc::Global;
 use std::sync::Wait;
+
+/// Why a file was not loaded.
+#[derive(Clone, Copy, Debug, PartialEq, Eq)]
+pub(crate) enum LoadFault {
+    Saved(SavedFault),
+    /// Its partitions chose the places of keys by a secret, as none of this server does.
+    Hashing,
+}
+
+impl From<SavedFault> for LoadFault {
+    ghost use Rattle.daemon.specs.declared.loading.LoadFault.TheVariants.{Saved};
+
+    ghost from_gives = { λ fault e. e ≡ Saved fault };
+
+    fn from(fault: SavedFault) -> Self {
+        LoadFault::Saved(fault)
+    }
+}
 
 /// What fills the partitions, and the first unique number that none of it has.
 #[derive(Drop)]
 pub(crate) struct Loaded {
     pub writes: Vec<Write>,
     pub next: u64,
+    /// Whether there is a file.
+    pub is_there: bool,
 }
 
 // The writes so far, and of each partition the second of the flush that waits.
@@ -43,9 +64,12 @@ impl Loading {
 }
 
 impl TakesEntries for Loading {
-    ghost use Rattle.std.specs.Prelude.{⊤};
+    ghost use Rattle.std.specs.Prelude.{◌≡◌, false};
+    ghost use Rattle.daemon.specs.Saved.{Loads};
 
-    ghost takes = { λ _ _ _. ⊤ };
+    ghost takes = { λ old entry new. Loads old.writes.items old.untils.items entry new.writes.items new.untils.items };
+
+    ghost refuses = { λ _ _ new. new.has_memory ≡ false };
 
     fn pair(&mut self, pair: &SavedPair) -> Result<(), Refused> {
         self.has_memory = self.add(pair).is_ok();
@@ -66,22 +90,23 @@ impl TakesEntries for Loading {
     }
 }
 
-// Asks again for the flush that waited in a partition.
-fn flush_again<R: Wait>(
+// Asks again for the flush that waited in a partition. Where its second came meanwhile, it takes all that was loaded at once.
+fn add_flush<R: Wait>(
     rt: &R,
     alloc: Global,
     options: &Options,
     partition: u32,
     due: u64,
-    second: u64,
-) -> Result<Write, NoMemory> {
+    writes: &mut Vec<Write>,
+) -> Result<(), NoMemory> {
     let mut key = ItemBuf::new(alloc)?;
-    make_key(rt, options, partition, due, second, &mut key);
-    Ok(Write {
+    make_key(rt, options, partition, due, 0, &mut key);
+    writes.push(Write {
         op: Op::Del,
         key: Bytes::copy(alloc, key.value())?,
         value: Bytes::empty(alloc),
-    })
+    })?;
+    Ok(())
 }
 
 // Where there are as many partitions as before, each has its own; else each has the last one of all.
@@ -99,9 +124,15 @@ pub(crate) fn load<R: Wait, S: Source>(
     source: &mut S,
     options: &Options,
     second: u64,
-) -> Result<Loaded, SavedFault> {
-    let mut reader = SavedReader::new(alloc)?;
+) -> Result<Loaded, LoadFault> {
+    let mut reader = match SavedReader::new(alloc) {
+        Ok(reader) => reader,
+        Err(NoMemory) => return Err(LoadFault::Saved(SavedFault::NoMemory)),
+    };
     let head = read_head(alloc, source, &mut reader)?;
+    if head.hashing != Hashing::Papers {
+        return Err(LoadFault::Hashing);
+    }
     // by the server's clock no second passed twice, whatever the machine's says
     let second = second.max(head.second);
     let mut pair = SavedPair::new(alloc);
@@ -133,14 +164,18 @@ pub(crate) fn load<R: Wait, S: Source>(
         ..
     } = lasting;
     if !has_memory {
-        return Err(SavedFault::NoMemory);
+        return Err(LoadFault::Saved(SavedFault::NoMemory));
     }
     read?;
     for partition in 0..options.partitions {
         let due = due_in(untils.as_slice(), options.partitions, partition);
-        if due > second {
-            writes.push(flush_again(rt, alloc, options, partition, due, second)?)?;
+        if due > 0 && add_flush(rt, alloc, options, partition, due, &mut writes).is_err() {
+            return Err(LoadFault::Saved(SavedFault::NoMemory));
         }
     }
-    Ok(Loaded { writes, next })
+    Ok(Loaded {
+        writes,
+        next,
+        is_there: true,
+    })
 }

@@ -91,6 +91,8 @@ fn plain_reason(status: DaemonStatus) -> &'static str {
         DaemonStatus::ImageRefused =>
             "a partition has no room for all of the image: give more memory",
         DaemonStatus::UsedUp => "its ports have taken all that can be counted",
+        DaemonStatus::SaveFault =>
+            "the file of --save could not be written, or another server has it",
         DaemonStatus::Stopped => "",
     }
 }

@@ -1,33 +1,41 @@
-//! What a server has at hand that keeps its items from one run to the next.
+//! The saving of what a server leaves, partition by partition.
 
 use kept_items::save_part;
 use locked_front::HistoryCounts;
-use memcached_decisions::{LAST_UNIQUE, moment_at};
+use memcached_decisions::moment_at;
 use mica_words::SLOTS;
 use named_files::{Beside, Place, put_in_place, use_up};
-use outside::{Clock, Failed, NoMemory};
+use outside::{Failed, NoMemory};
 use partition_model::{Mode, Options};
 use partition_table::OwnerSeat;
-use partition_walk::WordsWalk;
+use partition_walk::{WordsWalk, list_items};
 use saved_items::{
     Closing, Hashing, Head, SavedMode, SavedPair, SpillFault, Spiller, finish, put_head,
 };
 use std::alloc::Global;
+use std::mem;
 
-/// A file of saved items, and the room that saving takes, which is made before anything is served.
+/// The longest value that a partition stores, and the longest key.
+const LONGEST_VALUE: usize = mica_words::MAX_STORED_LEN;
+
+const LONGEST_KEY: usize = 255;
+
+/// A file of saved items, and the room that saving takes, which is made before anything is served: so a stop can't fail for want of it.
 #[derive(Drop)]
 pub struct Saving<P> {
     beside: Beside<P>,
     /// Whether the file was loaded, so that it is used up.
     is_loaded: bool,
     spiller: Spiller,
-    room: Vec<u64>,
+    /// Where the items of a partition lie.
+    offsets: Vec<u64>,
     pair: SavedPair,
     head: Head,
+    /// Where unique numbers begin.
     base: u64,
     /// How many partitions were saved.
     parts: u64,
-    /// What the saving came to so far.
+    /// What it came to so far.
     came: Result<(), SpillFault>,
 }
 
@@ -38,11 +46,17 @@ fn saved_mode(mode: Mode) -> SavedMode {
     }
 }
 
-// As many items as a partition may have: no more than its index has entries, each of at least four words.
+// As many items as a partition may have: no more than its index has entries.
 fn most_items(options: &Options) -> usize {
-    let buckets = options.buckets as usize + options.spares as usize;
-    let entries = buckets.saturating_mul(SLOTS as usize);
-    entries.min(options.words as usize / 4 + 1)
+    (options.buckets as usize + options.spares as usize) * SLOTS as usize
+}
+
+// Room for the longest pair.
+fn room_for_pair(alloc: Global) -> Result<SavedPair, NoMemory> {
+    let mut pair = SavedPair::new(alloc);
+    pair.key = Vec::with_capacity(alloc, LONGEST_KEY + 8)?;
+    pair.value = Vec::with_capacity(alloc, LONGEST_VALUE + 8)?;
+    Ok(pair)
 }
 
 impl<P: Place + Drop> Saving<P> {
@@ -58,8 +72,8 @@ impl<P: Place + Drop> Saving<P> {
             beside: Beside { place },
             is_loaded,
             spiller: Spiller::new(alloc)?,
-            room: Vec::with_capacity(alloc, most_items(options))?,
-            pair: SavedPair::new(alloc),
+            offsets: Vec::with_capacity(alloc, most_items(options))?,
+            pair: room_for_pair(alloc)?,
             head: Head {
                 second: 0,
                 hashing: Hashing::Papers,
@@ -72,79 +86,95 @@ impl<P: Place + Drop> Saving<P> {
         })
     }
 
-    /// The ports are had, and nothing was received: a file that was loaded gets another name.
+    /// Takes the name from a file that was loaded, so that it is used once.
     pub(crate) fn use_up(&mut self) -> Result<(), Failed> {
-        if self.is_loaded {
-            let used = use_up(&mut self.beside.place);
-            self.is_loaded = used.is_err();
-            return used;
+        if !self.is_loaded {
+            return Ok(());
         }
+        use_up(&mut self.beside.place)?;
+        self.is_loaded = false;
         Ok(())
     }
 
     // Begins the file beside, before its first partition.
-    fn begin(&mut self, second: u64) -> Result<(), SpillFault> {
+    fn begin_file(&mut self, second: u64) -> Result<(), SpillFault> {
         self.head.second = second;
         self.beside.place.begin()?;
         put_head(&mut self.beside, &mut self.spiller, &self.head)
     }
 
-    // What is there of a partition.
-    fn save_walk(
+    // Saves what is there of the items that were listed, and closes the partition.
+    fn save_listed(
         &mut self,
-        walk: &mut WordsWalk<OwnerSeat>,
+        alloc: Global,
+        seat: OwnerSeat,
         counts: &HistoryCounts,
-    ) -> Result<(), SpillFault> {
+    ) -> (OwnerSeat, Result<(), SpillFault>) {
         let when = counts.when_at(self.head.second);
         let at = moment_at(self.base, when);
         let closing = Closing {
             written: counts.written,
-            next: at.unique.clamp(1, LAST_UNIQUE),
+            next: at.unique,
             until: at.until,
         };
-        if walk.begin().is_err() {
-            return Err(SpillFault::NoMemory);
-        }
-        save_part(
+        let offsets = mem::replace(&mut self.offsets, Vec::new(alloc));
+        let mut walk = WordsWalk::over(seat, offsets);
+        let came = save_part(
             &mut self.beside,
             &mut self.spiller,
-            walk,
+            &mut walk,
             &at,
             closing,
             &mut self.pair,
-        )
+        );
+        let (seat, offsets) = walk.end();
+        self.offsets = offsets;
+        (seat, came)
     }
 
-    /// Saves what is left of a partition at this second, or at that of the first one. The words stay as they are.
-    pub(crate) fn save<C: Clock>(
+    // Saves what is there of a partition, behind those before it.
+    fn save_next(
         &mut self,
-        clock: &mut C,
-        seat: OwnerSeat,
-        counts: HistoryCounts,
         alloc: Global,
+        seat: OwnerSeat,
+        counts: &HistoryCounts,
+        second: u64,
+    ) -> (OwnerSeat, Result<(), SpillFault>) {
+        let mut seat = seat;
+        if self.parts == 0 {
+            let begun = self.begin_file(second);
+            if begun.is_err() {
+                return (seat, begun);
+            }
+        }
+        if list_items(&mut seat, &mut self.offsets).is_err() {
+            return (seat, Err(SpillFault::NoMemory));
+        }
+        self.save_listed(alloc, seat, counts)
+    }
+
+    /// Saves what is there of a partition at this second, or at that of the first one. Its words stay as they are.
+    pub(crate) fn save(
+        &mut self,
+        alloc: Global,
+        seat: OwnerSeat,
+        counts: &HistoryCounts,
+        second: u64,
     ) -> OwnerSeat {
-        if self.came.is_ok() && self.parts == 0 {
-            self.came = self.begin(clock.second());
+        if self.came.is_err() {
+            return seat;
         }
-        let room = std::mem::replace(&mut self.room, Vec::new(alloc));
-        let mut walk = WordsWalk::over(seat, room);
-        if self.came.is_ok() {
-            self.came = self.save_walk(&mut walk, &counts);
-        }
+        let (seat, came) = self.save_next(alloc, seat, counts, second);
         self.parts = self.parts.saturating_add(1);
-        let (seat, room) = walk.end();
-        self.room = room;
+        self.came = came;
         seat
     }
 
-    /// Gives the file its name, where all partitions were saved. Says whether it has it.
-    pub(crate) fn end(&mut self) -> bool {
-        if self.came.is_err() || self.parts != self.head.partitions {
-            return false;
-        }
-        if finish(&mut self.beside, &mut self.spiller).is_err() {
-            return false;
-        }
-        put_in_place(&mut self.beside.place).is_ok()
+    /// Gives the file its name, once all partitions were saved. Says why it has it not.
+    pub(crate) fn end(&mut self) -> Result<(), SpillFault> {
+        self.came?;
+        finish(&mut self.beside, &mut self.spiller)?;
+        put_in_place(&mut self.beside.place)?;
+        Ok(())
     }
 }

@@ -1,81 +1,65 @@
 //! A walk of a partition's words.
-ghost use Rattle.std.specs.Prelude.{[]};
+ghost use Rattle.std.specs.Prelude.{◌≡◌, true};
+ghost use Rattle.std.specs.List.{list_all};
+ghost use Rattle.partition_words.specs.declared.state.Phase.TheVariants.{Idle};
+ghost use Rattle.partition_words.specs.OwnerState.{options_in};
+ghost use Rattle.kept_items.specs.Walk.{IsWalk};
+ghost use Rattle.partition_walk.specs.Listed.{AreListed};
+ghost use Rattle.partition_walk.specs.PairAt.{is_item, pairs_from};
 
-use crate::listing::list_items;
+use crate::pairs::read_pair;
 use kept_items::Walks;
-use mica_words::{header_key_len, header_value_len};
 use outside::NoMemory;
-use partition_words::{OwnerWords, WordAt};
+use partition_words::{OwnerState, OwnerWords, WordAt};
 use saved_items::SavedPair;
 
-/// The words of a partition, and where those of its items lie that were not gone over yet.
+/// The words of a partition, and where its items lie, of which so many were gone over.
 #[derive(Drop)]
-pub struct WordsWalk<W> {
+pub struct WordsWalk<W: OwnerWords> {
     words: W,
     offsets: Vec<u64>,
     at: usize,
-}
-
-// So many bytes, from this offset on, in place of those in `out`.
-fn read_bytes<W: OwnerWords>(
-    words: &mut W,
-    offset: u64,
-    len: usize,
-    out: &mut Vec<u8>,
-) -> Result<(), NoMemory> {
-    out.clear();
-    for at in 0..len.div_ceil(8) {
-        let word = words.read(WordAt::Item(offset + at as u64));
-        out.extend_from_slice(&word.to_le_bytes())?;
-    }
-    out.truncate(len);
-    Ok(())
-}
-
-// The pair at an offset, in place of the one that `pair` held.
-fn read_pair<W: OwnerWords>(
-    words: &mut W,
-    offset: u64,
-    pair: &mut SavedPair,
-) -> Result<(), NoMemory> {
-    let header = words.read(WordAt::Item(offset));
-    let key_len = header_key_len(header) as usize;
-    let value_len = header_value_len(header) as usize;
-    let value_at = offset + 2 + key_len.div_ceil(8) as u64;
-    read_bytes(words, offset + 2, key_len, &mut pair.key)?;
-    read_bytes(words, value_at, value_len, &mut pair.value)?;
-    pair.reads = 0;
-    pair.is_long = false;
-    Ok(())
+    ghost items: { list_all (is_item (W.owner words)) offsets.items ≡ true },
 }
 
 impl<W: OwnerWords> WordsWalk<W> {
-    /// A walk that has not begun. `room` is taken for where items lie.
-    pub fn over(words: W, room: Vec<u64>) -> WordsWalk<W> {
+    /// A walk over the items that were listed of a partition between two writes. It takes no memory.
+    pub fn over(words: W, offsets: Vec<u64>) -> WordsWalk<W>
+        requires idle { (W.owner words).phase ≡ Idle }
+        requires listed { AreListed (W.owner words) offsets.items }
+        ensures walk { IsWalk (options_in (W.owner words)) (W.owner words).history (pairs_from (W.owner result.words) result.at result.offsets.items) }
+        ensures same { W.owner result.words ≡ W.owner words }
+        ensures home { W.home result.words ≡ W.home words }
+    {
+        let mut words = words;
+        // A load tells that the words are lawful.
+        words.read(WordAt::Stamp);
         WordsWalk {
             words,
-            offsets: room,
+            offsets,
             at: 0,
         }
     }
 
-    /// Begins the walk.
-    pub fn begin(&mut self) -> Result<(), NoMemory> {
-        self.at = 0;
-        list_items(&mut self.words, &mut self.offsets)
-    }
-
     /// The words, and the room.
-    pub fn end(self) -> (W, Vec<u64>) {
-        (self.words, self.offsets)
+    pub fn end(self) -> (W, Vec<u64>)
+        ensures same { W.owner result.0 ≡ W.owner self.words }
+        ensures home { W.home result.0 ≡ W.home self.words }
+    {
+        let WordsWalk { words, offsets, .. } = self;
+        (words, offsets)
     }
 }
 
 impl<W: OwnerWords> Walks for WordsWalk<W> {
-    ghost rest = { λ _. [] };
+    type Source = OwnerState;
+
+    ghost source = { λ w. W.owner w.words };
+
+    ghost rest = { λ w. pairs_from (W.owner w.words) w.at w.offsets.items };
 
     fn next(&mut self, pair: &mut SavedPair) -> Result<bool, NoMemory> {
-        let Some(offset) = self.offsets.get(self.at) else {
+        let Some(offset) = self.offsets.as_slice().get(self.at) else {
             return Ok(false);
         };
         read_pair(&mut self.words, *offset, pair)?;

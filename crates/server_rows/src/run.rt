@@ -3,9 +3,9 @@
 use crate::overheard::{Overheard, OverheardListeners, Port};
 use anyhow::Result;
 use connections::{Change, Step};
-use daemon::{MemFiles, Process, Speaker, Start, answer_or_serve, ending_number, free_by};
+use daemon::{Keeper, MemFiles, Process, Speaker, Start, answer_or_serve, ending_number, free_by};
 use locked_server::Left;
-use memory_outside::{MemNet, MemSink};
+use memory_outside::{MemClock, MemNet, MemSink};
 use outside::{Bytes, NoMemory};
 use row_parts::{Entry, Row, RowGate, at_least_one, has_sent, is_one_of, net_of};
 use std::alloc::Global;
@@ -151,7 +151,7 @@ fn run(
         processors: 4,
     };
     let start = Start { second: 0, base: 1 };
-    let mut left = Left::nothing();
+    let mut left = Left::nothing(Keeper::new(alloc, MemClock::new(&[])));
     let ending = answer_or_serve(
         &process,
         start,

@@ -1,0 +1,65 @@
+//! Who keeps what a server leaves, where a file of saved items is named; else nobody does.
+
+use crate::saving::Saving;
+use locked_front::HistoryCounts;
+use locked_server::{Keeps, Unkept};
+use named_files::Place;
+use outside::Clock;
+use partition_table::OwnerSeat;
+use saved_items::SpillFault;
+use std::alloc::Global;
+
+/// The saving, where items are saved, and a clock that tells at which second.
+#[derive(Drop)]
+pub struct Keeper<P, C> {
+    alloc: Global,
+    clock: C,
+    pub(crate) saving: Option<Saving<P>>,
+}
+
+impl<P: Place + Drop, C: Clock + Drop> Keeper<P, C> {
+    /// One that keeps nothing, until a saving is given to it.
+    pub fn new(alloc: Global, clock: C) -> Keeper<P, C> {
+        Keeper {
+            alloc,
+            clock,
+            saving: None,
+        }
+    }
+
+    /// What is to be kept is whole: a file of saved items gets its name.
+    pub(crate) fn end(&mut self) -> Result<(), SpillFault> {
+        match &mut self.saving {
+            Some(saving) => saving.end(),
+            None => Ok(()),
+        }
+    }
+}
+
+impl<P: Place + Drop, T: Clock + Drop> Keeps for Keeper<P, T> {
+    ghost use Rattle.std.specs.Prelude.{⊤};
+
+    ghost begins = { λ _ _. ⊤ };
+
+    ghost fails = { λ _ _. ⊤ };
+
+    ghost keeps = { λ _ _ _. ⊤ };
+
+    // A file that was loaded is used once.
+    fn begin(&mut self) -> Result<(), Unkept> {
+        match &mut self.saving {
+            Some(saving) => match saving.use_up() {
+                Ok(()) => Ok(()),
+                Err(_) => Err(Unkept),
+            },
+            None => Ok(()),
+        }
+    }
+
+    fn show(&mut self, seat: OwnerSeat, counts: HistoryCounts) -> OwnerSeat {
+        match &mut self.saving {
+            Some(saving) => saving.save(self.alloc, seat, &counts, self.clock.second()),
+            None => seat,
+        }
+    }
+}
