@@ -6,3 +6,4 @@ pub mod Filling
 pub mod Daemon
 pub mod Headline
 pub mod Saved
+pub mod Saving

@@ -37,13 +37,14 @@ impl<P: Place + Drop, C: Clock + Drop> Keeper<P, C> {
 }
 
 impl<P: Place + Drop, T: Clock + Drop> Keeps for Keeper<P, T> {
-    ghost use Rattle.std.specs.Prelude.{⊤};
+    ghost use Rattle.std.specs.Prelude.{option_map};
+    ghost use Rattle.daemon.specs.Saving.{saving_facts, OnSaving, UsesUp, FailsToUseUp, Shows};
 
-    ghost begins = { λ _ _. ⊤ };
+    ghost begins = { λ a b. OnSaving UsesUp (option_map (saving_facts P.state P.faults) a.saving) (option_map (saving_facts P.state P.faults) b.saving) };
 
-    ghost fails = { λ _ _. ⊤ };
+    ghost fails = { λ a b. OnSaving FailsToUseUp (option_map (saving_facts P.state P.faults) a.saving) (option_map (saving_facts P.state P.faults) b.saving) };
 
-    ghost keeps = { λ _ _ _. ⊤ };
+    ghost keeps = { λ a seat b. OnSaving (λ old new. Shows old seat new) (option_map (saving_facts P.state P.faults) a.saving) (option_map (saving_facts P.state P.faults) b.saving) };
 
     // A file that was loaded is used once.
     fn begin(&mut self) -> Result<(), Unkept> {

@@ -1,4 +1,12 @@
 //! What was saved, as writes that fill the partitions.
+ghost use Rattle.std.specs.Prelude.{◌≡◌, ◌<◌, ◌≤◌, ◌⊎◌, ◌==◌, ◌∷◌, ◌++◌, ⊤, ℕ, [], All, Option, Some, None, false, true, length, max, OnOk, IfOk, IfErr};
+ghost use Rattle.outside.specs.Faults.{Rose};
+ghost use Rattle.partition_model.specs.Options.{IsPossible};
+ghost use Rattle.partition_model.specs.Write.{IsWrite};
+ghost use Rattle.mica_words.specs.Hash.{partition_of};
+ghost use Rattle.saved_items.specs.Items.{pair_of, PairFits};
+ghost use Rattle.kept_items.specs.Loaded.{put_of};
+ghost use Rattle.daemon.specs.Saved.{due_in, IsFlushOf, FillsKnown, FailsToLoad};
 
 use kept_items::Lasting;
 use locked_front::make_key;
@@ -47,7 +55,11 @@ struct Loading {
     has_memory: bool,
 }
 
-fn put_of(alloc: Global, pair: &SavedPair) -> Result<Write, NoMemory> {
+fn put_of(alloc: Global, pair: &SavedPair) -> Result<Write, NoMemory>
+    requires fits { PairFits (pair_of pair.now) }
+    ensures put { IfOk result (λ write. write ≡ put_of (pair_of pair.now)) }
+    ensures is_write { IfOk result IsWrite }
+{
     Ok(Write {
         op: Op::Put,
         key: Bytes::copy(alloc, pair.key.as_slice())?,
@@ -56,7 +68,11 @@ fn put_of(alloc: Global, pair: &SavedPair) -> Result<Write, NoMemory> {
 }
 
 impl Loading {
-    fn add(&mut self, pair: &SavedPair) -> Result<(), NoMemory> {
+    fn add(&mut self, pair: &SavedPair) -> Result<(), NoMemory>
+        requires fits { PairFits (pair_of pair.now) }
+        ensures put { OnOk result (self.new.writes.items ≡ self.old.writes.items ++ put_of (pair_of pair.now) ∷ []) }
+        ensures same { self.new.untils ≡ self.old.untils }
+    {
         let write = put_of(self.alloc, pair)?;
         self.writes.push(write)?;
         Ok(())
@@ -98,7 +114,10 @@ fn add_flush<R: Wait>(
     partition: u32,
     due: u64,
     writes: &mut Vec<Write>,
-) -> Result<(), NoMemory> {
+) -> Result<(), NoMemory>
+    requires options { IsPossible options.now }
+    ensures { OnOk result ((write : _) × (writes.new.items ≡ writes.old.items ++ write ∷ []) × IsFlushOf options.now partition due write) }
+{
     let mut key = ItemBuf::new(alloc)?;
     make_key(rt, options, partition, due, 0, &mut key);
     writes.push(Write {
@@ -110,7 +129,9 @@ fn add_flush<R: Wait>(
 }
 
 // Where there are as many partitions as before, each has its own; else each has the last one of all.
-fn due_in(untils: &[u64], partitions: u32, partition: u32) -> u64 {
+fn due_in(untils: &[u64], partitions: u32, partition: u32) -> u64
+    ensures { result ≡ due_in untils.now partitions partition }
+{
     if untils.len() == partitions as usize {
         return untils.get(partition as usize).copied().unwrap_or(0);
     }
@@ -124,7 +145,14 @@ pub(crate) fn load<R: Wait, S: Source>(
     source: &mut S,
     options: &Options,
     second: u64,
-) -> Result<Loaded, LoadFault> {
+) -> Result<Loaded, LoadFault>
+    requires options { IsPossible options.now }
+    requires open { S.has_ended source.old ≡ false }
+    ensures fills { IfOk result (λ loaded. (first : ℕ) → FillsKnown options.now first second (S.left source.old) loaded.writes.items (max first loaded.next)) }
+    ensures are_writes { IfOk result (λ loaded. All IsWrite loaded.writes.items) }
+    ensures there { IfOk result (λ loaded. loaded.is_there ≡ true) }
+    ensures cause { IfErr result (λ fault. FailsToLoad fault (S.left source.old) (S.faults source.old) (S.faults source.new)) }
+{
     let mut reader = match SavedReader::new(alloc) {
         Ok(reader) => reader,
         Err(NoMemory) => return Err(LoadFault::Saved(SavedFault::NoMemory)),

@@ -1,6 +1,6 @@
 //! Files in memory.
 ghost use Rattle.std.specs.Prelude.{◌≡◌, ◌<◌, ◌≤◌, List, ℕ, true, false, [], Some, None, option_map, bytes_eq, length, vec_len, IfOk, IfSome, IsErrOf, OnOk, OnErr, if◌then◌else◌};
-ghost use Rattle.daemon.specs.Files.{ReadScript, Foretells, named_in, file_in, script_of, fails_at};
+ghost use Rattle.daemon.specs.Files.{ReadScript, Foretells, named_in, file_in, new_place, script_of, fails_at};
 
 use crate::{Files, SystemFiles};
 use named_files::MemPlace;
@@ -118,6 +118,8 @@ impl Files for MemFiles {
     type Place = MemPlace;
 
     ghost file = { λ f name. file_in f.files.items name };
+
+    ghost place = { λ f name. Some (new_place (file_in f.files.items name)) };
 
     ghost faults = { λ f. f.faults };
 

@@ -1,4 +1,15 @@
 //! The saving of what a server leaves, partition by partition.
+ghost use Rattle.std.specs.Prelude.{◌≡◌, ◌<◌, ◌≤◌, List, None, IfOk, OnOk, OnErr, IsErrOf};
+ghost use Rattle.partition_model.specs.Options.{IsPossible};
+ghost use Rattle.partition_words.specs.declared.state.Phase.TheVariants.{Idle};
+ghost use Rattle.partition_words.specs.OwnerState.{options_in};
+ghost use Rattle.partition_table.specs.declared.tables.KeptSeat.{KeptSeat};
+ghost use Rattle.partition_table.specs.Seats.{owner_state};
+ghost use Rattle.partition_table.specs.Tabled.{kept_seat_of};
+ghost use Rattle.locked_front.specs.Counts.{counts_after};
+ghost use Rattle.named_files.specs.Files.{Told, IsSettled};
+ghost use Rattle.kept_items.specs.Left.{saved_mode};
+ghost use Rattle.daemon.specs.Saving.{saving_facts, UsesUp, FailsToUseUp, Shows, HasCome, SavesAtEnd, SavesNot, IsNewSaving, HasAll};
 
 use kept_items::save_part;
 use locked_front::HistoryCounts;
@@ -39,7 +50,9 @@ pub struct Saving<P> {
     came: Result<(), SpillFault>,
 }
 
-fn saved_mode(mode: Mode) -> SavedMode {
+fn saved_mode(mode: Mode) -> SavedMode
+    ensures { result ≡ saved_mode mode }
+{
     match mode {
         Mode::Cache => SavedMode::Cache,
         Mode::Store => SavedMode::Store,
@@ -67,7 +80,12 @@ impl<P: Place + Drop> Saving<P> {
         is_loaded: bool,
         options: &Options,
         base: u64,
-    ) -> Result<Saving<P>, NoMemory> {
+    ) -> Result<Saving<P>, NoMemory>
+        requires settled { Told (P.state place) IsSettled }
+        requires numbers { 0 < base }
+        requires options { IsPossible options.now }
+        ensures { IfOk result (λ saving. IsNewSaving options.now base is_loaded (P.state place) (P.faults place) (saving_facts P.state P.faults saving)) }
+    {
         Ok(Saving {
             beside: Beside { place },
             is_loaded,
@@ -87,7 +105,11 @@ impl<P: Place + Drop> Saving<P> {
     }
 
     /// Takes the name from a file that was loaded, so that it is used once.
-    pub(crate) fn use_up(&mut self) -> Result<(), Failed> {
+    pub(crate) fn use_up(&mut self) -> Result<(), Failed>
+        requires settled { Told (P.state self.old.beside.place) IsSettled }
+        ensures used { OnOk result (UsesUp (saving_facts P.state P.faults self.old) (saving_facts P.state P.faults self.new)) }
+        ensures failed { OnErr result (FailsToUseUp (saving_facts P.state P.faults self.old) (saving_facts P.state P.faults self.new)) }
+    {
         if !self.is_loaded {
             return Ok(());
         }
@@ -160,7 +182,12 @@ impl<P: Place + Drop> Saving<P> {
         seat: OwnerSeat,
         counts: &HistoryCounts,
         second: u64,
-    ) -> OwnerSeat {
+    ) -> OwnerSeat
+        requires idle { (owner_state seat).phase ≡ Idle }
+        requires counts { counts.now ≡ counts_after (options_in (owner_state seat)) (owner_state seat).history }
+        ensures same { owner_state result ≡ owner_state seat }
+        ensures shown { Shows (saving_facts P.state P.faults self.old) (kept_seat_of seat) (saving_facts P.state P.faults self.new) }
+    {
         if self.came.is_err() {
             return seat;
         }
@@ -171,7 +198,12 @@ impl<P: Place + Drop> Saving<P> {
     }
 
     /// Gives the file its name, once all partitions were saved. Says why it has it not.
-    pub(crate) fn end(&mut self) -> Result<(), SpillFault> {
+    pub(crate) fn end(&mut self) -> Result<(), SpillFault>
+        ensures saved { OnOk result ((tables : List KeptSeat) → HasCome (saving_facts P.state P.faults self.old) tables → HasAll self.old.head tables
+            → SavesAtEnd self.old.base tables (P.state self.old.beside.place) (P.state self.new.beside.place)) }
+        ensures cause { IsErrOf result SpillFault.Failed → (tables : List KeptSeat) → HasCome (saving_facts P.state P.faults self.old) tables → HasAll self.old.head tables
+            → SavesNot self.old.base tables (saving_facts P.state P.faults self.old).place (saving_facts P.state P.faults self.new).place }
+    {
         self.came?;
         finish(&mut self.beside, &mut self.spiller)?;
         put_in_place(&mut self.beside.place)?;

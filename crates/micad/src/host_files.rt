@@ -40,6 +40,8 @@ impl<'a, R: FileSystem<File = File>> Files for HostFiles<'a, R> {
 
     ghost file = { λ _ _. None };
 
+    ghost place = { λ _ _. None };
+
     ghost faults = { λ f. f.faults };
 
     ghost script = { λ _ _. None };
