@@ -1,5 +1,5 @@
 -- What is saved of the partitions that a server leaves.
-use Rattle.std.specs.Prelude.{◌≡◌, ◌≤◌, ◌<◌, ◌⊎◌, ⊤, ℕ, Bool, true, List, [], ◌∷◌, ◌++◌, length, Option, Some, None, option_map, Result, Ok, Err}
+use Rattle.std.specs.Prelude.{◌≡◌, ◌≤◌, ◌<◌, ◌⊎◌, ⊤, ℕ, Bool, true, false, List, [], ◌∷◌, ◌++◌, length, Option, Some, None, option_map, Result, Ok, Err}
 use Rattle.std.specs.List.{All, AllZip}
 use Rattle.outside.specs.Faults.{Rose}
 use Rattle.partition_model.specs.declared.options.Options.{Options}
@@ -30,18 +30,18 @@ pub record SavingFacts : Type 0 where
   pub spiller : Spiller
   pub head : Head
   pub base : ℕ
-  pub parts : ℕ
+  pub is_begun : Bool
   pub came : Result ⊤ SpillFault
 
 abbrev pub saving_facts : {P : Type 0} → (P → Option FileState) → (P → ℕ) → Saving P → SavingFacts
 saving_facts state faults saving = record {
-  place = record { state = state saving.beside.place; faults = faults saving.beside.place };
-  is_loaded = saving.is_loaded;
-  spiller = saving.spiller;
-  head = saving.head;
-  base = saving.base;
-  parts = saving.parts;
-  came = saving.came;
+  place = record { state = state saving.place; faults = faults saving.place };
+  is_loaded = saving.progress.is_loaded;
+  spiller = saving.progress.spiller;
+  head = saving.progress.head;
+  base = saving.progress.base;
+  is_begun = saving.progress.is_begun;
+  came = saving.progress.came;
 }
 
 -- It takes the name from a file that was loaded: a crash at any moment leaves that file or none, and behind it none. Nothing was saved.
@@ -60,17 +60,16 @@ blank_of state = option_map (λ _. []) state
 
 -- What came of the partitions that were shown: what is there of each at one second, one behind another, is the beginning of a file beside; or why it is not.
 abbrev pub IsSoFar : SavingFacts → Result ⊤ SpillFault → List KeptSeat → Type 0
-IsSoFar saving (Ok none) [] = IsFresh saving.spiller
+IsSoFar saving (Ok none) [] = (saving.is_begun ≡ false) × IsFresh saving.spiller
 IsSoFar saving (Ok none) (seat ∷ seats) =
-    (parts : List Part)
+    (saving.is_begun ≡ true) × (parts : List Part)
     × AllZip (λ (seat : KeptSeat) part. IsLeft (options_of seat.shape) saving.base saving.head.second seat.history part) (seat ∷ seats) parts
     × HasSaved (blank_of saving.place.state) (beside_of saving.place.state) saving.spiller saving.head (entries_in parts)
 IsSoFar saving (Err spill.Failed) seats = 0 < saving.place.faults
 IsSoFar saving (Err spill.NoMemory) seats = ⊤
 
--- So many were shown, and a crash leaves of the file what a read gives.
+-- These were shown, and a crash leaves of the file what a read gives.
 pub record HasCome (saving : SavingFacts) (seats : List KeptSeat) : Type 0 where
-  pub many : saving.parts ≡ length seats
   pub so_far : IsSoFar saving saving.came seats
   pub settled : Told saving.place.state IsSettled
 

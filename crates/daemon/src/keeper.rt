@@ -7,21 +7,18 @@ use named_files::Place;
 use outside::Clock;
 use partition_table::OwnerSeat;
 use saved_items::SpillFault;
-use std::alloc::Global;
 
 /// The saving, where items are saved, and a clock that tells at which second.
 #[derive(Drop)]
 pub struct Keeper<P, C> {
-    alloc: Global,
     clock: C,
     pub(crate) saving: Option<Saving<P>>,
 }
 
 impl<P: Place + Drop, C: Clock + Drop> Keeper<P, C> {
     /// One that keeps nothing, until a saving is given to it.
-    pub fn new(alloc: Global, clock: C) -> Keeper<P, C> {
+    pub fn new(clock: C) -> Keeper<P, C> {
         Keeper {
-            alloc,
             clock,
             saving: None,
         }
@@ -29,10 +26,12 @@ impl<P: Place + Drop, C: Clock + Drop> Keeper<P, C> {
 
     /// What is to be kept is whole: a file of saved items gets its name.
     pub(crate) fn end(&mut self) -> Result<(), SpillFault> {
-        match &mut self.saving {
-            Some(saving) => saving.end(),
-            None => Ok(()),
-        }
+        let Some(saving) = self.saving.take() else {
+            return Ok(());
+        };
+        let (saving, came) = saving.end();
+        self.saving = Some(saving);
+        came
     }
 }
 
@@ -58,9 +57,11 @@ impl<P: Place + Drop, T: Clock + Drop> Keeps for Keeper<P, T> {
     }
 
     fn show(&mut self, seat: OwnerSeat, counts: HistoryCounts) -> OwnerSeat {
-        match &mut self.saving {
-            Some(saving) => saving.save(self.alloc, seat, &counts, self.clock.second()),
-            None => seat,
-        }
+        let Some(saving) = self.saving.take() else {
+            return seat;
+        };
+        let (saving, seat) = saving.save(seat, &counts, self.clock.second());
+        self.saving = Some(saving);
+        seat
     }
 }

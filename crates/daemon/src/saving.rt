@@ -1,5 +1,5 @@
 //! The saving of what a server leaves, partition by partition.
-ghost use Rattle.std.specs.Prelude.{◌≡◌, ◌<◌, ◌≤◌, List, None, IfOk, OnOk, OnErr, IsErrOf};
+ghost use Rattle.std.specs.Prelude.{◌≡◌, ◌<◌, List, IfOk, OnOk, OnErr, IsErrOf};
 ghost use Rattle.partition_model.specs.Options.{IsPossible};
 ghost use Rattle.partition_words.specs.declared.state.Phase.TheVariants.{Idle};
 ghost use Rattle.partition_words.specs.OwnerState.{options_in};
@@ -14,8 +14,8 @@ ghost use Rattle.daemon.specs.Saving.{saving_facts, UsesUp, FailsToUseUp, Shows,
 use kept_items::save_part;
 use locked_front::HistoryCounts;
 use memcached_decisions::moment_at;
-use mica_words::SLOTS;
-use named_files::{Beside, Place, put_in_place, use_up};
+use mica_words::{MAX_KEY_LEN, MAX_STORED_LEN, SLOTS};
+use named_files::{Place, Stands, SteadyBeside, put_in_place, use_up};
 use outside::{Failed, NoMemory};
 use partition_model::{Mode, Options};
 use partition_table::OwnerSeat;
@@ -24,17 +24,13 @@ use saved_items::{
     Closing, Hashing, Head, SavedMode, SavedPair, SpillFault, Spiller, finish, put_head,
 };
 use std::alloc::Global;
+use std::marker::Brand;
 use std::mem;
 
-/// The longest value that a partition stores, and the longest key.
-const LONGEST_VALUE: usize = mica_words::MAX_STORED_LEN;
-
-const LONGEST_KEY: usize = 255;
-
-/// A file of saved items, and the room that saving takes, which is made before anything is served: so a stop can't fail for want of it.
+/// What is saved so far, and the room that saving takes, which is made before anything is served: so a stop can't fail for want of it.
 #[derive(Drop)]
-pub struct Saving<P> {
-    beside: Beside<P>,
+pub struct Progress {
+    alloc: Global,
     /// Whether the file was loaded, so that it is used up.
     is_loaded: bool,
     spiller: Spiller,
@@ -44,10 +40,17 @@ pub struct Saving<P> {
     head: Head,
     /// Where unique numbers begin.
     base: u64,
-    /// How many partitions were saved.
-    parts: u64,
-    /// What it came to so far.
+    /// Whether a partition was shown.
+    is_begun: bool,
+    /// What it came to.
     came: Result<(), SpillFault>,
+}
+
+/// A file of saved items, and what is saved so far.
+#[derive(Drop)]
+pub struct Saving<P> {
+    place: P,
+    progress: Progress,
 }
 
 fn saved_mode(mode: Mode) -> SavedMode
@@ -60,16 +63,96 @@ fn saved_mode(mode: Mode) -> SavedMode
 }
 
 // As many items as a partition may have: no more than its index has entries.
-fn most_items(options: &Options) -> usize {
+fn most_items(options: &Options) -> usize
+    requires { IsPossible options.now }
+{
     (options.buckets as usize + options.spares as usize) * SLOTS as usize
 }
 
-// Room for the longest pair.
+// Room for the longest pair, which is read by words of 8 bytes.
 fn room_for_pair(alloc: Global) -> Result<SavedPair, NoMemory> {
     let mut pair = SavedPair::new(alloc);
-    pair.key = Vec::with_capacity(alloc, LONGEST_KEY + 8)?;
-    pair.value = Vec::with_capacity(alloc, LONGEST_VALUE + 8)?;
+    pair.key = Vec::with_capacity(alloc, MAX_KEY_LEN + 8)?;
+    pair.value = Vec::with_capacity(alloc, MAX_STORED_LEN + 8)?;
     Ok(pair)
+}
+
+impl Progress {
+    // Begins the file beside, before its first partition.
+    fn begin_file<J: Stands, P: Place + Drop>(&mut self, place: P, second: u64) -> P {
+        let mut place = place;
+        self.head.second = second;
+        self.is_begun = true;
+        if place.begin().is_err() {
+            self.came = Err(SpillFault::Failed);
+            return place;
+        }
+        let mut beside = SteadyBeside::<J, P>::of(place);
+        self.came = put_head(&mut beside, &mut self.spiller, &self.head);
+        beside.end()
+    }
+
+    // Saves what is there of the items that were listed, and closes the partition.
+    fn save_listed<J: Stands, P: Place + Drop>(
+        &mut self,
+        place: P,
+        seat: OwnerSeat,
+        counts: &HistoryCounts,
+    ) -> (P, OwnerSeat) {
+        let at = moment_at(self.base, counts.when_at(self.head.second));
+        let closing = Closing {
+            written: counts.written,
+            next: at.unique,
+            until: at.until,
+        };
+        let offsets = mem::replace(&mut self.offsets, Vec::new(self.alloc));
+        let mut walk = WordsWalk::over(seat, offsets);
+        let mut beside = SteadyBeside::<J, P>::of(place);
+        self.came = save_part(
+            &mut beside,
+            &mut self.spiller,
+            &mut walk,
+            &at,
+            closing,
+            &mut self.pair,
+        );
+        let (seat, offsets) = walk.end();
+        self.offsets = offsets;
+        (beside.end(), seat)
+    }
+
+    // Saves what is there of a partition, behind those before it.
+    fn save_items<J: Stands, P: Place + Drop>(
+        &mut self,
+        place: P,
+        seat: OwnerSeat,
+        counts: &HistoryCounts,
+        second: u64,
+    ) -> (P, OwnerSeat) {
+        let mut place = place;
+        let mut seat = seat;
+        if !self.is_begun {
+            place = self.begin_file::<J, P>(place, second);
+        }
+        if self.came.is_err() {
+            return (place, seat);
+        }
+        if list_items(&mut seat, &mut self.offsets).is_err() {
+            self.came = Err(SpillFault::NoMemory);
+            return (place, seat);
+        }
+        self.save_listed::<J, P>(place, seat, counts)
+    }
+
+    // Ends the file beside, behind its last partition.
+    fn finish_file<J: Stands, P: Place + Drop>(&mut self, place: P) -> P {
+        if self.came.is_err() {
+            return place;
+        }
+        let mut beside = SteadyBeside::<J, P>::of(place);
+        self.came = finish(&mut beside, &mut self.spiller);
+        beside.end()
+    }
 }
 
 impl<P: Place + Drop> Saving<P> {
@@ -86,8 +169,8 @@ impl<P: Place + Drop> Saving<P> {
         requires options { IsPossible options.now }
         ensures { IfOk result (λ saving. IsNewSaving options.now base is_loaded (P.state place) (P.faults place) (saving_facts P.state P.faults saving)) }
     {
-        Ok(Saving {
-            beside: Beside { place },
+        let progress = Progress {
+            alloc,
             is_loaded,
             spiller: Spiller::new(alloc)?,
             offsets: Vec::with_capacity(alloc, most_items(options))?,
@@ -99,114 +182,62 @@ impl<P: Place + Drop> Saving<P> {
                 partitions: u64::from(options.partitions),
             },
             base,
-            parts: 0,
+            is_begun: false,
             came: Ok(()),
-        })
+        };
+        Ok(Saving { place, progress })
     }
 
     /// Takes the name from a file that was loaded, so that it is used once.
     pub(crate) fn use_up(&mut self) -> Result<(), Failed>
-        requires settled { Told (P.state self.old.beside.place) IsSettled }
+        requires settled { Told (P.state self.old.place) IsSettled }
         ensures used { OnOk result (UsesUp (saving_facts P.state P.faults self.old) (saving_facts P.state P.faults self.new)) }
         ensures failed { OnErr result (FailsToUseUp (saving_facts P.state P.faults self.old) (saving_facts P.state P.faults self.new)) }
     {
-        if !self.is_loaded {
+        if !self.progress.is_loaded {
             return Ok(());
         }
-        use_up(&mut self.beside.place)?;
-        self.is_loaded = false;
+        use_up(&mut self.place)?;
+        self.progress.is_loaded = false;
         Ok(())
-    }
-
-    // Begins the file beside, before its first partition.
-    fn begin_file(&mut self, second: u64) -> Result<(), SpillFault> {
-        self.head.second = second;
-        self.beside.place.begin()?;
-        put_head(&mut self.beside, &mut self.spiller, &self.head)
-    }
-
-    // Saves what is there of the items that were listed, and closes the partition.
-    fn save_listed(
-        &mut self,
-        alloc: Global,
-        seat: OwnerSeat,
-        counts: &HistoryCounts,
-    ) -> (OwnerSeat, Result<(), SpillFault>) {
-        let when = counts.when_at(self.head.second);
-        let at = moment_at(self.base, when);
-        let closing = Closing {
-            written: counts.written,
-            next: at.unique,
-            until: at.until,
-        };
-        let offsets = mem::replace(&mut self.offsets, Vec::new(alloc));
-        let mut walk = WordsWalk::over(seat, offsets);
-        let came = save_part(
-            &mut self.beside,
-            &mut self.spiller,
-            &mut walk,
-            &at,
-            closing,
-            &mut self.pair,
-        );
-        let (seat, offsets) = walk.end();
-        self.offsets = offsets;
-        (seat, came)
-    }
-
-    // Saves what is there of a partition, behind those before it.
-    fn save_next(
-        &mut self,
-        alloc: Global,
-        seat: OwnerSeat,
-        counts: &HistoryCounts,
-        second: u64,
-    ) -> (OwnerSeat, Result<(), SpillFault>) {
-        let mut seat = seat;
-        if self.parts == 0 {
-            let begun = self.begin_file(second);
-            if begun.is_err() {
-                return (seat, begun);
-            }
-        }
-        if list_items(&mut seat, &mut self.offsets).is_err() {
-            return (seat, Err(SpillFault::NoMemory));
-        }
-        self.save_listed(alloc, seat, counts)
     }
 
     /// Saves what is there of a partition at this second, or at that of the first one. Its words stay as they are.
     pub(crate) fn save(
-        &mut self,
-        alloc: Global,
+        self,
         seat: OwnerSeat,
         counts: &HistoryCounts,
         second: u64,
-    ) -> OwnerSeat
+    ) -> (Saving<P>, OwnerSeat)
         requires idle { (owner_state seat).phase ≡ Idle }
         requires counts { counts.now ≡ counts_after (options_in (owner_state seat)) (owner_state seat).history }
-        ensures same { owner_state result ≡ owner_state seat }
-        ensures shown { Shows (saving_facts P.state P.faults self.old) (kept_seat_of seat) (saving_facts P.state P.faults self.new) }
+        ensures same { owner_state result.1 ≡ owner_state seat }
+        ensures shown { Shows (saving_facts P.state P.faults self) (kept_seat_of seat) (saving_facts P.state P.faults result.0) }
     {
-        if self.came.is_err() {
-            return seat;
-        }
-        let (seat, came) = self.save_next(alloc, seat, counts, second);
-        self.parts = self.parts.saturating_add(1);
-        self.came = came;
-        seat
+        let Saving {
+            place,
+            mut progress,
+        } = self;
+        let (place, seat) = progress.save_items::<Brand, P>(place, seat, counts, second);
+        (Saving { place, progress }, seat)
     }
 
     /// Gives the file its name, once all partitions were saved. Says why it has it not.
-    pub(crate) fn end(&mut self) -> Result<(), SpillFault>
-        ensures saved { OnOk result ((tables : List KeptSeat) → HasCome (saving_facts P.state P.faults self.old) tables → HasAll self.old.head tables
-            → SavesAtEnd self.old.base tables (P.state self.old.beside.place) (P.state self.new.beside.place)) }
-        ensures cause { IsErrOf result SpillFault.Failed → (tables : List KeptSeat) → HasCome (saving_facts P.state P.faults self.old) tables → HasAll self.old.head tables
-            → SavesNot self.old.base tables (saving_facts P.state P.faults self.old).place (saving_facts P.state P.faults self.new).place }
+    pub(crate) fn end(self) -> (Saving<P>, Result<(), SpillFault>)
+        ensures saved { OnOk result.1 ((tables : List KeptSeat) → HasCome (saving_facts P.state P.faults self) tables → HasAll self.progress.head tables
+            → SavesAtEnd self.progress.base tables (P.state self.place) (P.state result.0.place)) }
+        ensures cause { IsErrOf result.1 SpillFault.Failed → (tables : List KeptSeat) → HasCome (saving_facts P.state P.faults self) tables → HasAll self.progress.head tables
+            → SavesNot self.progress.base tables (saving_facts P.state P.faults self).place (saving_facts P.state P.faults result.0).place }
     {
-        self.came?;
-        finish(&mut self.beside, &mut self.spiller)?;
-        put_in_place(&mut self.beside.place)?;
-        Ok(())
+        let Saving {
+            place,
+            mut progress,
+        } = self;
+        let mut place = progress.finish_file::<Brand, P>(place);
+        if progress.came.is_ok() && put_in_place(&mut place).is_err() {
+            progress.came = Err(SpillFault::Failed);
+        }
+        let came = progress.came;
+        (Saving { place, progress }, came)
     }
 }

@@ -130,7 +130,7 @@ pub fn run_on_host<
         &mut speaker,
         &mut UdpNet::failing_whole(rt, &flags.ended, &flags.stopping),
         &mut listeners,
-        &mut Left::nothing(Keeper::new(alloc, clock)),
+        &mut Left::nothing(Keeper::new(clock)),
     );
     say_why(rt, &speaker, listeners.refused());
     flags.over.store(true, Ordering::Relaxed);

@@ -151,7 +151,7 @@ fn run(
         processors: 4,
     };
     let start = Start { second: 0, base: 1 };
-    let mut left = Left::nothing(Keeper::new(alloc, MemClock::new(&[])));
+    let mut left = Left::nothing(Keeper::new(MemClock::new(&[])));
     let ending = answer_or_serve(
         &process,
         start,
