@@ -19,7 +19,7 @@ use crate::kept::begin_kept;
 use crate::output::{print_totals, write_due};
 use crate::places::{buffers_of, places_of};
 use crate::process::{Process, Start};
-use crate::reasons::{note_image, shortage_reason, unbound_reason};
+use crate::reasons::{note_image, note_saved, shortage_reason, unbound_reason};
 use crate::speaker::{Speaker, Unbound, ready_line, unbound_line};
 use crate::{DaemonStatus, Doubt, Files, Keeper};
 use connections::Listeners;
@@ -283,24 +283,26 @@ pub fn daemon<
         return DaemonStatus::NoMemory;
     }
     if let Some(name) = save {
-        return match begin_kept(process, start, files, name, &options, &mut speaker.sink) {
-            Ok(begun) => {
-                left.keeper.saving = Some(begun.saving);
-                stay_up(
-                    process,
-                    begun.start,
-                    &options,
-                    &ports,
-                    &streams,
-                    begun.filling,
-                    speaker,
-                    net,
-                    listeners,
-                    left,
-                )
+        let begun = match begin_kept(process, start, files, name, &options, &mut speaker.sink) {
+            Ok(begun) => begun,
+            Err(status) => {
+                note_saved(process.alloc, name, status, speaker);
+                return status;
             }
-            Err(status) => status,
         };
+        left.keeper.saving = Some(begun.saving);
+        return stay_up(
+            process,
+            begun.start,
+            &options,
+            &ports,
+            &streams,
+            begun.filling,
+            speaker,
+            net,
+            listeners,
+            left,
+        );
     }
     match filling_of(process.alloc, files, image, &mut speaker.sink) {
         Ok(filling) => stay_up(
