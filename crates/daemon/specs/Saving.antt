@@ -14,8 +14,10 @@ use Rattle.saved_items.specs.declared.spiller.Spiller.{Spiller}
 use Rattle.saved_items.specs.Items.{SavedItems}
 use Rattle.saved_items.specs.Spelling.{SpellsSaved}
 use Rattle.saved_items.specs.Spiller.{IsFresh, HasSaved}
-use Rattle.kept_items.specs.Parts.{Part, entries_in, parts_of}
+use Rattle.kept_items.specs.Parts.{Part, entries_of, entries_in, parts_of}
+use Rattle.kept_items.specs.Walk.{SavesAll}
 use Rattle.kept_items.specs.Left.{IsLeft, saved_mode}
+use Rattle.daemon.specs.declared.saving.Progress.{Progress}
 use Rattle.daemon.specs.declared.saving.Saving.{Saving}
 
 -- what contracts see of a file of saved items: what its names stand for, and the count of its faults
@@ -33,16 +35,26 @@ pub record SavingFacts : Type 0 where
   pub is_begun : Bool
   pub came : Result ⊤ SpillFault
 
-abbrev pub saving_facts : {P : Type 0} → (P → Option FileState) → (P → ℕ) → Saving P → SavingFacts
-saving_facts state faults saving = record {
-  place = record { state = state saving.place; faults = faults saving.place };
-  is_loaded = saving.progress.is_loaded;
-  spiller = saving.progress.spiller;
-  head = saving.progress.head;
-  base = saving.progress.base;
-  is_begun = saving.progress.is_begun;
-  came = saving.progress.came;
+abbrev pub progress_facts : Option FileState → ℕ → Progress → SavingFacts
+progress_facts state faults progress = record {
+  place = record { state = state; faults = faults };
+  is_loaded = progress.is_loaded;
+  spiller = progress.spiller;
+  head = progress.head;
+  base = progress.base;
+  is_begun = progress.is_begun;
+  came = progress.came;
 }
+
+abbrev pub saving_facts : {P : Type 0} → (P → Option FileState) → (P → ℕ) → Saving P → SavingFacts
+saving_facts state faults saving = progress_facts (state saving.place) (faults saving.place) saving.progress
+
+-- it has begun, with this head, and what else is not of the file is as it was
+pub record IsAsBefore (head : Head) (old new : Progress) : Type 0 where
+  pub head_is : new.head ≡ head
+  pub base : new.base ≡ old.base
+  pub loaded : new.is_loaded ≡ old.is_loaded
+  pub begun : new.is_begun ≡ true
 
 -- It takes the name from a file that was loaded: a crash at any moment leaves that file or none, and behind it none. Nothing was saved.
 pub record UsesUp (old new : SavingFacts) : Type 0 where
@@ -67,6 +79,12 @@ IsSoFar saving (Ok none) (seat ∷ seats) =
     × HasSaved (blank_of saving.place.state) (beside_of saving.place.state) saving.spiller saving.head (entries_in parts)
 IsSoFar saving (Err spill.Failed) seats = 0 < saving.place.faults
 IsSoFar saving (Err spill.NoMemory) seats = ⊤
+
+-- What is there of a partition stands behind what was saved before.
+abbrev pub SavesSeat : KeptSeat → Option FileState → Option FileState → Progress → Progress → Type 0
+SavesSeat seat before after old new =
+    (part : Part) × IsLeft (options_of seat.shape) old.base old.head.second seat.history part
+    × SavesAll (beside_of before) (beside_of after) old.spiller new.spiller (entries_of part.pairs part.closing)
 
 -- These were shown, and a crash leaves of the file what a read gives.
 pub record HasCome (saving : SavingFacts) (seats : List KeptSeat) : Type 0 where

@@ -1,5 +1,5 @@
 //! The saving of what a server leaves, partition by partition.
-ghost use Rattle.std.specs.Prelude.{◌≡◌, ◌<◌, List, IfOk, OnOk, OnErr, IsErrOf};
+ghost use Rattle.std.specs.Prelude.{◌≡◌, ◌<◌, ◌≤◌, ◌⊎◌, ◌∷◌, ◌++◌, [], ⊤, List, IfOk, OnOk, OnErr, IsErrOf};
 ghost use Rattle.partition_model.specs.Options.{IsPossible};
 ghost use Rattle.partition_words.specs.declared.state.Phase.TheVariants.{Idle};
 ghost use Rattle.partition_words.specs.OwnerState.{options_in};
@@ -7,9 +7,12 @@ ghost use Rattle.partition_table.specs.declared.tables.KeptSeat.{KeptSeat};
 ghost use Rattle.partition_table.specs.Seats.{owner_state};
 ghost use Rattle.partition_table.specs.Tabled.{kept_seat_of};
 ghost use Rattle.locked_front.specs.Counts.{counts_after};
-ghost use Rattle.named_files.specs.Files.{Told, IsSettled};
+ghost use Rattle.std.specs.Bool.{MatchBool};
+ghost use Rattle.named_files.specs.Files.{Told, IsSettled, KeepsFile, beside_of};
+ghost use Rattle.saved_items.specs.Spiller.{IsFresh, HasSaved, Finishes};
+ghost use Rattle.partition_walk.specs.Listed.{AreListed};
 ghost use Rattle.kept_items.specs.Left.{saved_mode};
-ghost use Rattle.daemon.specs.Saving.{saving_facts, UsesUp, FailsToUseUp, Shows, HasCome, SavesAtEnd, SavesNot, IsNewSaving, HasAll};
+ghost use Rattle.daemon.specs.Saving.{saving_facts, UsesUp, FailsToUseUp, Shows, HasCome, SavesAtEnd, SavesNot, IsNewSaving, HasAll, IsAsBefore, IsSoFar, SavesSeat, blank_of, progress_facts};
 
 use kept_items::save_part;
 use locked_front::HistoryCounts;
@@ -44,6 +47,7 @@ pub struct Progress {
     is_begun: bool,
     /// What it came to.
     came: Result<(), SpillFault>,
+    ghost fresh: { MatchBool is_begun ⊤ (IsFresh spiller) },
 }
 
 /// A file of saved items, and what is saved so far.
@@ -79,7 +83,15 @@ fn room_for_pair(alloc: Global) -> Result<SavedPair, NoMemory> {
 
 impl Progress {
     // Begins the file beside, before its first partition.
-    fn begin_file<J: Stands, P: Place + Drop>(&mut self, place: P, second: u64) -> P {
+    fn begin_file<J: Stands, P: Place + Drop>(&mut self, place: P, second: u64) -> P
+        requires kept { KeepsFile J.file (P.state place) }
+        requires fresh { IsFresh self.old.spiller }
+        ensures file { KeepsFile J.file (P.state result) }
+        ensures never_fall { P.faults place ≤ P.faults result }
+        ensures begun { OnOk self.new.came (HasSaved (blank_of (P.state result)) (beside_of (P.state result)) self.new.spiller self.new.head []) }
+        ensures cause { IsErrOf self.new.came SpillFault.Failed → 0 < P.faults result }
+        ensures same { IsAsBefore (record self.old.head { second = second }) self.old self.new }
+    {
         let mut place = place;
         self.head.second = second;
         self.is_begun = true;
@@ -98,7 +110,18 @@ impl Progress {
         place: P,
         seat: OwnerSeat,
         counts: &HistoryCounts,
-    ) -> (P, OwnerSeat) {
+    ) -> (P, OwnerSeat)
+        requires kept { KeepsFile J.file (P.state place) }
+        requires idle { (owner_state seat).phase ≡ Idle }
+        requires listed { AreListed (owner_state seat) self.old.offsets.items }
+        requires counts { counts.now ≡ counts_after (options_in (owner_state seat)) (owner_state seat).history }
+        ensures file { KeepsFile J.file (P.state result.0) }
+        ensures never_fall { P.faults place ≤ P.faults result.0 }
+        ensures seat { owner_state result.1 ≡ owner_state seat }
+        ensures saved { OnOk self.new.came (SavesSeat (kept_seat_of seat) (P.state place) (P.state result.0) self.old self.new) }
+        ensures cause { IsErrOf self.new.came SpillFault.Failed → 0 < P.faults result.0 }
+        ensures same { IsAsBefore self.old.head self.old self.new }
+    {
         let at = moment_at(self.base, counts.when_at(self.head.second));
         let closing = Closing {
             written: counts.written,
@@ -128,7 +151,17 @@ impl Progress {
         seat: OwnerSeat,
         counts: &HistoryCounts,
         second: u64,
-    ) -> (P, OwnerSeat) {
+    ) -> (P, OwnerSeat)
+        requires kept { KeepsFile J.file (P.state place) }
+        requires idle { (owner_state seat).phase ≡ Idle }
+        requires counts { counts.now ≡ counts_after (options_in (owner_state seat)) (owner_state seat).history }
+        ensures file { KeepsFile J.file (P.state result.0) }
+        ensures never_fall { P.faults place ≤ P.faults result.0 }
+        ensures seat { owner_state result.1 ≡ owner_state seat }
+        ensures comes { (seats : List KeptSeat) → IsSoFar (progress_facts (P.state place) (P.faults place) self.old) self.old.came seats
+            → IsSoFar (progress_facts (P.state result.0) (P.faults result.0) self.new) self.new.came (seats ++ kept_seat_of seat ∷ []) }
+        ensures base { self.new.base ≡ self.old.base }
+    {
         let mut place = place;
         let mut seat = seat;
         if !self.is_begun {
@@ -145,7 +178,13 @@ impl Progress {
     }
 
     // Ends the file beside, behind its last partition.
-    fn finish_file<J: Stands, P: Place + Drop>(&mut self, place: P) -> P {
+    fn finish_file<J: Stands, P: Place + Drop>(&mut self, place: P) -> P
+        requires kept { KeepsFile J.file (P.state place) }
+        ensures file { KeepsFile J.file (P.state result) }
+        ensures never_fall { P.faults place ≤ P.faults result }
+        ensures finished { OnOk self.new.came (OnOk self.old.came (Finishes (beside_of (P.state place)) (beside_of (P.state result)) self.old.spiller)) }
+        ensures cause { IsErrOf self.new.came SpillFault.Failed → IsErrOf self.old.came SpillFault.Failed ⊎ (0 < P.faults result) }
+    {
         if self.came.is_err() {
             return place;
         }
