@@ -52,9 +52,9 @@ def started(command, ports):
 
 @contextlib.contextmanager
 def micad(*words, threads=1, mode="store", memory="64M", build=MICAD):
-    """The process, and its port."""
+    """The process, and its port. Without memory its sizes stand among the words."""
     port = free_port()
-    command = [build, "--mode", mode, "--memory", memory, "--memcached", port, "--threads", threads, *words]
+    command = [build, "--mode", mode, *(("--memory", memory) if memory else ()), "--memcached", port, "--threads", threads, *words]
     with started(command, [port]) as running:
         yield running, range(port, port + 1)
 

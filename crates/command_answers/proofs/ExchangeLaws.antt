@@ -13,7 +13,7 @@ use Rattle.memcached_stats.specs.Stats.{Told, stats_text}
 use Rattle.memcached_stats.proofs.Untold.{untold}
 use Rattle.command_answers.specs.AskAnswers.{AnswersAsks, asks_by, asks_text}
 use Rattle.command_answers.specs.FlushAnswers.{FlushesFrom, flush_at}
-use Rattle.command_answers.specs.Exchange.{Exchange, AnswersBy, AnswersNext, asks_stats, asks_to, is_flush_all, flush_due, count_of_answers, is_answered, style_of, plain_text, keyed_text, flush_text, text_by, due_to, due_before, IsOpenAt, longer}
+use Rattle.command_answers.specs.Exchange.{Exchange, AnswersBy, AnswersNext, asks_stats, asks_to, is_flush_all, flush_due, count_of_answers, is_answered, style_of, plain_text, keyed_text, flush_text, text_by, due_to, due_before, IsOpenAt, longer, topic_of}
 use Rattle.fronts.specs.Session.{Sessions, AnswersInOrder}
 use Rattle.command_answers.specs.declared.answer.Limits.{Limits}
 use Rattle.command_answers.specs.declared.answer.Progress.{Progress}
@@ -109,7 +109,7 @@ module _ (options : Options) (base : ℕ) (next : Next) (done : ℕ) where
 pub no_asks : (next : Next) → is_flush_all next ≡ true → asks_in next ≡ []
 no_asks (Whole (Keys asks) style len last) is = absurd (true≢false (sym is))
 no_asks (Whole (Flush due) style len last) is = refl
-no_asks (Whole Stats style len last) is = refl
+no_asks (Whole (Stats topic) style len last) is = refl
 no_asks (Whole (Said says) style len last) is = refl
 no_asks More is = refl
 
@@ -150,10 +150,10 @@ module _ (options : Options) (base : ℕ) (next : Next) (flushes : is_flush_all 
 pub record AsksStats (next : Next) : Type 0 where
   pub keyed : is_flush_all next ≡ false
   pub none : asks_in next ≡ []
-  pub due : (partitions : ℕ) (told : Told) → plain_text partitions told next ≡ stats_text (style_of next) partitions told
+  pub due : (partitions : ℕ) (told : Told) → plain_text partitions told next ≡ stats_text (style_of next) partitions (topic_of next) told
 
 pub of_stats : (next : Next) → asks_stats next ≡ true → AsksStats next
-of_stats (Whole Stats style len last) is = record { keyed = refl; none = refl; due = λ partitions told. refl }
+of_stats (Whole (Stats topic) style len last) is = record { keyed = refl; none = refl; due = λ partitions told. refl }
 of_stats (Whole (Keys asks) style len last) is = absurd (true≢false (sym is))
 of_stats (Whole (Flush due) style len last) is = absurd (true≢false (sym is))
 of_stats (Whole (Said says) style len last) is = absurd (true≢false (sym is))

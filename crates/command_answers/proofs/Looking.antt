@@ -1,5 +1,5 @@
 -- What a look under a hold answers.
-use Rattle.std.proofs.Common.{◌≡◌, ℕ, Bool, false, true≢false, List, [], ◌∷◌, Option, Some, None, refl, sym, ap, ◌∙◌, subst}
+use Rattle.std.proofs.Common.{◌≡◌, ℕ, Bool, true, false, true≢false, ◌⊎◌, inl, inr, cond, List, [], ◌∷◌, Option, Some, None, refl, sym, ap, ◌∙◌, subst}
 use Rattle.std.proofs.lemmas.Option.{same_Some}
 use Rattle.mica_words.specs.Hash.{partition_of}
 use Rattle.partition_model.specs.declared.options.Options.{Options}
@@ -8,28 +8,35 @@ use Rattle.partition_model.specs.declared.write.Answer.TheVariants.{Hit, Miss}
 use Rattle.partition_model.specs.declared.write.Outcome.{Outcome}
 use Rattle.partition_model.specs.declared.write.Write.{Write}
 use Rattle.partition_model.specs.Run.{RunStep}
+use Rattle.partition_model.specs.Write.{is_accepted}
+use Rattle.memcached_text.specs.declared.fault.Fault.TheVariants.{TooLarge}
 use Rattle.memcached_text.specs.declared.item.Item.{Item}
 use Rattle.memcached_text.specs.declared.command.Wants.TheVariants.{Whatever, Absent, Present, Numbered, AtLeast}
 use Rattle.memcached_commands.specs.declared.ask.Ask.{Ask}
 use Rattle.memcached_commands.specs.declared.ask.Ask.TheVariants.{Get, GetTouch, Leased, Store, Join, Count, Touch, Delete, Mark, Spoil}
 use Rattle.memcached_commands.specs.declared.asks.Asked.{Asked}
 use Rattle.memcached_commands.specs.declared.moment.Moment.{Moment}
-use Rattle.memcached_commands.specs.Moments.{found_in}
+use Rattle.memcached_commands.specs.declared.ask.Says.{Says}
+use Rattle.memcached_commands.specs.declared.ask.Says.TheVariants.{Line, Refusal, Stores}
+use Rattle.memcached_commands.specs.Answers.{no_room}
+use Rattle.memcached_commands.specs.Moments.{end_of, found_in}
 use Rattle.memcached_commands.specs.Changes.{looks}
 use Rattle.memcached_commands.specs.Decide as decided
 use Rattle.memcached_decisions.specs.Numbered.{Order, moment_at, value_in, becoming_by, unless_refused, says_by}
+use Rattle.memcached_stats.specs.declared.counter.Counter.{Counter}
+use Rattle.memcached_stats.specs.Counted.{counter_beside, counter_of_stored}
 use Rattle.memcached_stats.specs.Tallies.{Numbers}
 use Rattle.fronts.specs.declared.changing.Changed.{Changed}
 use Rattle.fronts.specs.declared.changing.When.{When}
 use Rattle.fronts.specs.Answered.{Answered, changed, kept, count_of_writes}
-use Rattle.fronts.specs.Changing.{Becoming, count_of, stays, becomes, goes, write_for, write_by, IsFound, DoesWrite, ComesTo}
+use Rattle.fronts.specs.Changing.{Becoming, count_of, stays, becomes, goes, write_for, write_by, IsFound, DoesWrite, ComesTo, TellsWhen}
 use Rattle.fronts.specs.Looks.{Look}
 use Rattle.fronts.specs.Session.{Sessions, AnswersOne, ChangesOnly}
 use Rattle.fronts.proofs.WhenLaws.{told_all}
 use Rattle.memcached_decisions.proofs.Becomings.{says_alike}
 use Rattle.command_answers.specs.AskAnswers.{order_of, said_of, is_refused, was_refused}
 use Rattle.command_answers.specs.Going.{AnswersAt, value_found}
-use Rattle.command_answers.specs.Counting.{noted_if, noted_by}
+use Rattle.command_answers.specs.Counting.{beside_of, noted_if, noted_by}
 
 -- What is said
 
@@ -59,6 +66,58 @@ says_stored order when None buffer value outcome is =
 says_stored order when (Some Hit) buffer value outcome is = ap (λ v. says_by order when v outcome) (sym is)
 says_stored order when (Some Miss) buffer value outcome is = ap (λ v. says_by order when v outcome) (sym is.0)
 
+-- What is counted of it
+
+-- nor does what is counted of what is said
+counted_blind : (at : Moment) (ask : Ask) (found : Option Item) (outcome : Option Outcome) (one other : Option Counter) → looks ask ≡ false
+    → counter_beside (unless_refused ask outcome (decided.decide at ask found).says) one ≡ counter_beside (unless_refused ask outcome (decided.decide at ask found).says) other
+unfolding decided.decide
+counted_blind at Get found outcome one other is = absurd (true≢false is)
+counted_blind at (GetTouch lifetime) found outcome one other is = absurd (true≢false is)
+counted_blind at (Leased lease) found outcome one other is = absurd (true≢false is)
+counted_blind at (Store Whatever flags lifetime value) found None one other is = refl
+counted_blind at (Store Whatever flags lifetime value) found (Some outcome) one other is = accepted (is_accepted outcome)
+  where
+    said : Bool → Says
+    said t = cond t (Stores (decided.number_until at (end_of at.second lifetime))) (Line (no_room (Store Whatever flags lifetime value)))
+
+    accepted : (t : Bool) → counter_beside (said t) one ≡ counter_beside (said t) other
+    accepted true = refl
+    accepted false = refl
+counted_blind at (Store Absent flags lifetime value) found outcome one other is = absurd (true≢false is)
+counted_blind at (Store Present flags lifetime value) found outcome one other is = absurd (true≢false is)
+counted_blind at (Store (Numbered unique) flags lifetime value) found outcome one other is = absurd (true≢false is)
+counted_blind at (Store (AtLeast unique) flags lifetime value) found outcome one other is = absurd (true≢false is)
+counted_blind at (Join side unique more) found outcome one other is = absurd (true≢false is)
+counted_blind at (Count direction delta unique lifetime initial) found outcome one other is = absurd (true≢false is)
+counted_blind at (Touch lifetime) found outcome one other is = absurd (true≢false is)
+counted_blind at (Delete unique) found outcome one other is = absurd (true≢false is)
+counted_blind at (Mark unique lifetime) found outcome one other is = absurd (true≢false is)
+counted_blind at Spoil found None one other is = refl
+counted_blind at Spoil found (Some outcome) one other is = accepted (is_accepted outcome)
+  where
+    accepted : (t : Bool) → counter_beside (cond t (Refusal TooLarge) (Line (no_room Spoil))) one ≡ counter_beside (cond t (Refusal TooLarge) (Line (no_room Spoil))) other
+    accepted true = refl
+    accepted false = refl
+
+-- nor on how many writes there were
+gone_alike : (base : ℕ) (becoming : When → Option (List ℕ) → Becoming) (told when : When) (stored : Option (List ℕ)) → TellsWhen becoming told when
+    → counter_of_stored (moment_at base told) stored ≡ counter_of_stored (moment_at base when) stored
+gone_alike base becoming told when stored (inl same) = ap (λ w. counter_of_stored (moment_at base w) stored) same
+gone_alike base becoming told when None (inr alike) = refl
+gone_alike base becoming told when (Some stored) (inr alike) = ap (λ w. counter_of_stored (moment_at base w) (Some stored)) alike.1
+
+pub beside_stored : (order : Order) (told when : When) (found : Option Answer) (buffer : List ℕ) (value : Option (List ℕ)) (outcome : Option Outcome)
+    → IsFound (looks order.ask) found buffer value → TellsWhen (becoming_by order) told when
+    → counter_beside (says_by order when value outcome) (counter_of_stored (moment_at order.base told) (value_found found buffer))
+    ≡ counter_beside (says_by order when value outcome) (counter_of_stored (moment_at order.base when) value)
+beside_stored order told when None buffer value outcome is tells =
+    counted_blind (moment_at order.base when) order.ask (found_in (moment_at order.base when) (value_in value)) outcome _ _ is
+beside_stored order told when (Some Hit) buffer value outcome is tells =
+    ap (counter_beside (says_by order when value outcome)) (ap (counter_of_stored (moment_at order.base told)) (sym is) ∙ gone_alike order.base (becoming_by order) told when value tells)
+beside_stored order told when (Some Miss) buffer value outcome is tells =
+    ap (counter_beside (says_by order when value outcome)) (ap (counter_of_stored (moment_at order.base told)) (sym is.0) ∙ gone_alike order.base (becoming_by order) told when value tells)
+
 -- What is written
 
 key_for : (key : List ℕ) (value : Option (List ℕ)) (becoming : Becoming) (write : Write) → write_for key value becoming ≡ Some write → write.key ≡ key
@@ -75,6 +134,7 @@ module _ (options : Options) (is_alone : Bool) (base second : ℕ) (asked : Aske
     pub said : says_by (order_of base asked) changed.when (value_found changed.found buffer) changed.outcome ≡ said_of base asked answered
     pub count : count_of_writes (answered ∷ []) ≡ count_of changed.outcome
     pub refused : is_refused answered ≡ was_refused changed.outcome
+    pub beside : counter_beside (said_of base asked answered) (counter_of_stored (moment_at base changed.when) (value_found changed.found buffer)) ≡ beside_of base asked answered
     pub noted : (partitions : ℕ) (tally : Numbers) → noted_if partitions asked.key changed.when changed.outcome changed.stamp tally ≡ noted_by partitions answered tally
 
   pub answered_by : (c : Changed) (buffer : List ℕ)
@@ -107,6 +167,7 @@ module _ (options : Options) (is_alone : Bool) (base second : ℕ) (asked : Aske
         said = said None is;
         count = sym (ap count_of is);
         refused = sym (ap was_refused is);
+        beside = beside_stored order c.when look.when c.found buffer look.value None comes.found comes.tells;
         noted = λ partitions tally. ap (λ o. noted_if partitions asked.key c.when o c.stamp tally) is;
       }
       go None (Some outcome) writes is does = absurd does
@@ -128,5 +189,6 @@ module _ (options : Options) (is_alone : Bool) (base second : ℕ) (asked : Aske
             said = said (Some outcome) is;
             count = sym (ap count_of is);
             refused = sym (ap was_refused is);
+            beside = beside_stored order c.when look.when c.found buffer look.value (Some outcome) comes.found comes.tells;
             noted = λ partitions tally i. noted_if partitions (sym key i) (when i) (is i) c.stamp tally;
           }

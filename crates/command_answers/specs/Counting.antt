@@ -7,10 +7,14 @@ use Rattle.partition_model.specs.Write.{is_accepted}
 use Rattle.memcached_commands.specs.declared.asks.Asked.{Asked}
 use Rattle.memcached_requests.specs.declared.request.Next.{Next}
 use Rattle.memcached_requests.specs.Requests.{asks_in}
-use Rattle.memcached_stats.specs.Counted.{counter_of, counter_by}
+use Rattle.memcached_commands.specs.declared.ask.Says.{Says}
+use Rattle.memcached_decisions.specs.Numbered.{moment_at}
+use Rattle.memcached_stats.specs.declared.counter.Counter.{Counter}
+use Rattle.memcached_stats.specs.Counted.{counter_of, counter_beside, counter_by, counter_of_stored}
 use Rattle.memcached_stats.specs.Tallies.{Numbers, counted, noted}
 use Rattle.fronts.specs.declared.changing.When.{When}
-use Rattle.fronts.specs.Answered.{Answered, changed}
+use Rattle.fronts.specs.Looks.{Look}
+use Rattle.fronts.specs.Answered.{Answered, changed, kept}
 use Rattle.command_answers.specs.AskAnswers.{said_of}
 use Rattle.command_answers.specs.Exchange.{is_flush_all}
 
@@ -27,9 +31,19 @@ abbrev pub noted_by : ℕ → Answered → Numbers → Numbers
 noted_by partitions (changed step look) tally = noted_if partitions step.write.key look.when (Some step.outcome) step.stamp tally
 noted_by partitions _ tally = tally
 
+-- what is counted of what was said of a look, beside what was asked
+abbrev pub beside_at : ℕ → Says → Look → Option Counter
+beside_at base says look = counter_beside says (counter_of_stored (moment_at base look.when) look.value)
+
+abbrev pub beside_of : ℕ → Asked → Answered → Option Counter
+beside_of base asked (changed step look) = beside_at base (said_of base asked (changed step look)) look
+beside_of base asked (kept key stamp look) = beside_at base (said_of base asked (kept key stamp look)) look
+beside_of base asked _ = None
+
 -- One ask was answered: what was said of it is counted, and a write of it noted.
 abbrev pub tally_after : ℕ → ℕ → Asked → Answered → Numbers → Numbers
-tally_after base partitions asked answered tally = noted_by partitions answered (counted (counter_of asked.ask (said_of base asked answered)) tally)
+tally_after base partitions asked answered tally =
+    noted_by partitions answered (counted (beside_of base asked answered) (counted (counter_of asked.ask (said_of base asked answered)) tally))
 
 -- These were, in order. What was asked behind the last of them is noted alone.
 abbrev pub tally_after_all : ℕ → ℕ → List Asked → List Answered → Numbers → Numbers

@@ -2,6 +2,8 @@
 use Rattle.std.specs.Prelude.{◌≡◌, ℕ, ◌==◌, ◌⊎◌, ◌<◌, Bool, true, false, List, [], ◌∷◌, ◌++◌, length, if◌then◌else◌}
 use Rattle.std.specs.List.{list_all}
 use Rattle.partition_model.specs.declared.options.Options.{Options}
+use Rattle.memcached_text.specs.declared.command.Topic.{Topic}
+use Rattle.memcached_text.specs.declared.command.Topic.TheVariants.{Server}
 use Rattle.memcached_text.specs.declared.lifetime.Due.{Due}
 use Rattle.memcached_text.specs.declared.lifetime.Due.TheVariants.{Now}
 use Rattle.memcached_text.specs.declared.reply.Reply.TheVariants.{Done, NoRoom}
@@ -69,12 +71,17 @@ is_answered options e = length e.answers == count_of_answers options e.next e.an
 
 -- a client wants to know what the server counts
 abbrev pub asks_stats : Next → Bool
-asks_stats (Whole Stats style len last) = true
+asks_stats (Whole (Stats topic) style len last) = true
 asks_stats _ = false
+
+-- of what
+abbrev pub topic_of : Next → Topic
+topic_of (Whole (Stats topic) style len last) = topic
+topic_of _ = Server
 
 -- what is due to a request that asks no key: it is carried out by its reply alone
 abbrev pub plain_request : ℕ → Told → Style → Request → List ℕ
-plain_request partitions told style Stats = stats_text style partitions told
+plain_request partitions told style (Stats topic) = stats_text style partitions topic told
 plain_request partitions told style (Said says) = said_text style true [] says
 plain_request partitions told style _ = []
 

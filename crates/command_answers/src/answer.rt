@@ -9,7 +9,7 @@ ghost use Rattle.fronts.specs.Session.{AnswersInOrder};
 ghost use Rattle.memcached_requests.specs.Requests.{IsFitNext, asks_in};
 ghost use Rattle.memcached_stats.specs.Stats.{Told, stats_text};
 ghost use Rattle.command_answers.specs.Counting.{tally_after_all, tally_after_next};
-ghost use Rattle.command_answers.specs.Exchange.{IsOpenAt, asks_stats, flush_due, flush_text, is_flush_all, plain_text, said_of_flush, style_of};
+ghost use Rattle.command_answers.specs.Exchange.{IsOpenAt, asks_stats, flush_due, flush_text, is_flush_all, plain_text, said_of_flush, style_of, topic_of};
 ghost use Rattle.command_answers.specs.FlushAnswers.{FlushesFrom, flush_at};
 ghost use Rattle.command_answers.specs.Going.{AnswersFirst, RepliesFirst, GoesOn, Replies};
 
@@ -20,7 +20,7 @@ use fronts::Changes;
 use memcached_commands::{Asks, Says};
 use memcached_requests::{Next, Request, Style, put_said};
 use memcached_stats::counter_by;
-use memcached_text::{Due, Reply};
+use memcached_text::{Due, Reply, Topic};
 use outside::NoMemory;
 use partition_model::ItemBuf;
 
@@ -52,30 +52,49 @@ fn is_stats(next: &Next) -> bool
 {
     match next {
         Next::Whole {
-            request: Request::Stats,
+            request: Request::Stats(_),
             ..
         } => true,
         _ => false,
     }
 }
 
-// Tells what the server counts. When out of memory, nothing is appended.
+// Of what a client wants to know what is counted.
+fn topic_of(next: &Next) -> Topic
+    ensures { result ≡ topic_of next.now }
+{
+    match next {
+        Next::Whole {
+            request: Request::Stats(topic),
+            ..
+        } => *topic,
+        _ => Topic::Server,
+    }
+}
+
+// Tells what the server counts, or counts anew. When out of memory, nothing is appended.
 fn answer_stats(
     second: u64,
     partitions: u32,
     buffers: &mut Buffers,
     style: &Style,
+    topic: Topic,
     done: usize,
     out: &mut Vec<u8>,
 ) -> Result<Progress, NoMemory>
     ensures told { IfOk result (λ progress. (progress ≡ record { done = done; is_whole = true })
-        × ((told : Told) × (out.new.items ≡ out.old.items ++ stats_text style.now partitions told))) }
+        × ((told : Told) × (out.new.items ≡ out.old.items ++ stats_text style.now partitions topic told))) }
     ensures err { OnErr result (out.new.items ≡ out.old.items) }
     ensures short { length out.new.items ≤ length out.old.items + MAX_REPLY_LEN }
     ensures tally { buffers.new.tally ≡ buffers.old.tally }
 {
     buffers.show();
-    buffers.board.put_stats(style, second, partitions, out)?;
+    if matches!(topic, Topic::Reset) {
+        buffers.board.reset();
+    }
+    buffers
+        .board
+        .put_stats(style, second, partitions, topic, out)?;
     Ok(Progress {
         done,
         is_whole: true,
@@ -313,7 +332,15 @@ pub fn answer_next<'a, F: Changes>(
         );
     }
     if is_stats(&next) {
-        return answer_stats(second, numbering.partitions, buffers, &style, done, out);
+        return answer_stats(
+            second,
+            numbering.partitions,
+            buffers,
+            &style,
+            topic_of(&next),
+            done,
+            out,
+        );
     }
     if has_none(&next) {
         let Ok(()) = put_plain(out, &next) else {

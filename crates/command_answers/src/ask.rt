@@ -12,10 +12,10 @@ use crate::buffers::Buffers;
 use crate::noted::Noted;
 use fronts::{Changed, Changes};
 use memcached_commands::{Ask, Asked, KEY_ROOM};
-use memcached_decisions::CommandOrder;
+use memcached_decisions::{CommandOrder, moment_at};
 use memcached_frames::{Verb, opcode_of};
 use memcached_requests::{Style, put_said};
-use memcached_stats::{Tally, counter_of};
+use memcached_stats::{Tally, counter_beside, counter_of};
 use memcached_text::Wants;
 use mica_words::{key_hash, partition_of};
 use outside::NoMemory;
@@ -141,6 +141,8 @@ pub fn answer_ask<F: Changes>(
     let stored = value_found(changed.found, found);
     let says = order.says(changed.when, stored, changed.outcome);
     tally.count(counter_of(&asked.ask, &says));
+    let at = moment_at(base, changed.when);
+    tally.count(counter_beside(&says, &at, stored));
     *is_refused = was_refused(changed.outcome);
     note_write(tally, noted, partitions, &asked.ask, key, &changed);
     put_said(out, style, is_last, key, &says)

@@ -5,9 +5,11 @@ use Rattle.std.specs.Option.{IfSome}
 use Rattle.memcached_text.specs.declared.limits.TheConstants.{MAX_GET_LINE_LEN, MAX_TEXT_LEN}
 use Rattle.memcached_text.specs.declared.command.Command.{Command}
 use Rattle.memcached_text.specs.declared.command.Command.TheVariants as commands
-use Rattle.memcached_text.specs.declared.command.Topic.TheVariants.{Server, NoPart}
+use Rattle.memcached_text.specs.declared.command.Topic.{Topic}
+use Rattle.memcached_text.specs.declared.command.Topic.TheVariants.{Server}
+use Rattle.memcached_text.specs.ServerLine.{topic_of}
 use Rattle.memcached_text.specs.declared.lifetime.Lifetime.{Lifetime}
-use Rattle.memcached_text.specs.declared.reply.Reply.TheVariants.{End, NotFound}
+use Rattle.memcached_text.specs.declared.reply.Reply.TheVariants.{End}
 use Rattle.memcached_text.specs.declared.next.Next as lines
 use Rattle.memcached_text.specs.declared.next.Next.TheVariants as of_lines
 use Rattle.memcached_text.specs.Next as text
@@ -27,7 +29,7 @@ use Rattle.memcached_requests.specs.declared.request.Request.TheVariants.{Stats,
 use Rattle.memcached_requests.specs.declared.request.Next.{Next}
 use Rattle.memcached_requests.specs.Requests.{asks_in, asks_of, len_of}
 use Rattle.memcached_requests.specs.Lines.{of_line, request_of, request_by as line_request}
-use Rattle.memcached_requests.specs.FrameRequests.{is_part, of_frame, request_by}
+use Rattle.memcached_requests.specs.FrameRequests.{of_frame, request_by, stats_on}
 use Rattle.memcached_requests.specs.MetaRequests.{refused_by, of_meta}
 use Rattle.memcached_requests.specs.Next.{is_frame, of_text, next_of}
 use Rattle.memcached_meta.specs.declared.fault.MetaFault.{MetaFault}
@@ -61,8 +63,7 @@ line_asks (commands.Count direction key delta quiet) = omega arith
 line_asks (commands.Delete key quiet) = omega arith
 line_asks (commands.Touch key lifetime quiet) = omega arith
 line_asks (commands.Flush due quiet) = omega arith
-line_asks (commands.Stats Server) = omega arith
-line_asks (commands.Stats NoPart) = omega arith
+line_asks (commands.Stats topic) = omega arith
 line_asks commands.Version = omega arith
 line_asks (commands.Verbosity quiet) = omega arith
 line_asks commands.Noop = omega arith
@@ -81,9 +82,10 @@ of_line_few come of_lines.LongLine few = record { within = omega arith; counted 
 
 -- Frames
 
-stats_ask : (none part : Bool) → length (asks_of (if none then Stats else Said (Line (if part then End else NotFound)))) ≤ 1
-stats_ask true part = omega arith
-stats_ask false part = omega arith
+stats_ask : (none : Bool) (topic : Option Topic) → length (asks_of (if none then Stats Server else stats_on topic)) ≤ 1
+stats_ask true topic = omega arith
+stats_ask false None = omega arith
+stats_ask false (Some topic) = omega arith
 
 -- a frame asks of one key at most
 frame_asks : (verb : Verb) (frame : Frame) → length (asks_of (request_by verb frame)) ≤ 1
@@ -100,7 +102,7 @@ frame_asks verbs.Noop frame = omega arith
 frame_asks verbs.Version frame = omega arith
 frame_asks verbs.Append frame = omega arith
 frame_asks verbs.Prepend frame = omega arith
-frame_asks verbs.Stat frame = stats_ask (length frame.key == 0) (is_part frame.key)
+frame_asks verbs.Stat frame = stats_ask (length frame.key == 0) (topic_of frame.key)
 frame_asks verbs.Touch frame = omega arith
 frame_asks verbs.GetTouch frame = omega arith
 

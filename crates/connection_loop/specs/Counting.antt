@@ -1,13 +1,13 @@
 -- What a front counts of the reports of its port.
-use Rattle.std.specs.Prelude.{ℕ}
+use Rattle.std.specs.Prelude.{ℕ, ◌+◌}
 use Rattle.memcached_stats.specs.declared.counter.Counter.TheVariants as counters
-use Rattle.memcached_stats.specs.Tallies.{Numbers, raised}
+use Rattle.memcached_stats.specs.Tallies.{Numbers, lifted, raised}
 use Rattle.connections.specs.declared.connections.Event.{Event}
 use Rattle.connections.specs.declared.connections.Event.TheVariants.{Opened, TurnedAway, Ready}
 
--- A connection that was turned away was never open: it is counted among those that were rejected, and nowhere else. One that there was no memory for is, too.
+-- A connection that came has a place, by its number. One that was turned away was never open: it is counted among those that were rejected, and nowhere else. One that there was no memory for is, too.
 abbrev pub counted_for : Event → ℕ → Numbers → Numbers
-counted_for (Opened number) lacked tally = raised counters.Rejected lacked (raised counters.Opened 1 tally)
+counted_for (Opened number) lacked tally = lifted counters.Structures (number + 1) (raised counters.Rejected lacked (raised counters.Opened 1 tally))
 counted_for TurnedAway lacked tally = raised counters.Rejected 1 tally
 counted_for (Ready number) lacked tally = raised counters.Lacked lacked tally
 

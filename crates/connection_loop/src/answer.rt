@@ -19,7 +19,7 @@ use memcached_requests::Next;
 use outside::NoMemory;
 
 /// The most commands that are answered at one look, so that no connection holds up the others. One that gets no answer and no reply is not counted.
-pub const MOST_COMMANDS: u32 = 256;
+pub const MOST_COMMANDS: u32 = 64;
 
 /// The most keys of one command that are answered at one look, and for how many bytes of replies that wait no more is answered.
 pub const LIMITS: Limits = Limits {

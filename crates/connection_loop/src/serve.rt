@@ -70,6 +70,7 @@ fn visit_held<F: CountsWrites, C: Connections>(
             0
         }
         After::Again => {
+            desk.buffers.tally.raise(Counter::Yields, 1);
             ask_again(connections, number, client.asks);
             client.asks -= 1;
             clients.put(number, client);
@@ -88,9 +89,10 @@ fn count_event(event: Event, lacked: u64, tally: &mut Tally)
     ensures { tally.new ≡ tally_after_report event lacked tally.old }
 {
     match event {
-        Event::Opened(_) => {
+        Event::Opened(number) => {
             tally.raise(Counter::Opened, 1);
             tally.raise(Counter::Rejected, lacked);
+            tally.lift(Counter::Structures, u64::from(number) + 1);
         }
         Event::TurnedAway => tally.raise(Counter::Rejected, 1),
         Event::Ready(_) => tally.raise(Counter::Lacked, lacked),

@@ -7,3 +7,4 @@ pub mod Daemon
 pub mod Headline
 pub mod Saved
 pub mod Saving
+pub mod Journal

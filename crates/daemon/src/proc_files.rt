@@ -1,4 +1,4 @@
-//! What the system's files tell of the process: who runs it, and how many descriptors it may have.
+//! What the system's files tell of the process: who runs it, how many descriptors it may have, and how much processors worked for it.
 
 use crate::SystemFiles;
 use std::alloc::Global;
@@ -16,6 +16,18 @@ pub(crate) fn open_limit<S: SystemFiles>(alloc: Global, system: &S) -> Option<u6
     let file = system.short_file(alloc, "/proc/self/limits")?;
     let (soft, _) = behind(file.as_slice(), "Max open files")?.split_once(' ')?;
     soft.parse().ok()
+}
+
+// The fields that stand before the work of processors in `/proc/self/stat`, behind the name of the program.
+const BEFORE_WORK: usize = 11;
+
+/// How much processors worked for the process, where the system tells it: by its own code and by the system's. Linux tells it in hundredths of a second.
+pub fn work_done<S: SystemFiles>(alloc: Global, system: &S) -> Option<(u64, u64)> {
+    let file = system.short_file(alloc, "/proc/self/stat")?;
+    let text = str::from_utf8(file.as_slice()).ok()?;
+    let (_, fields) = text.rsplit_once(')')?;
+    let mut work = fields.split_ascii_whitespace().skip(BEFORE_WORK);
+    Some((work.next()?.parse().ok()?, work.next()?.parse().ok()?))
 }
 
 // The number of the user whose rights the process has, as it is written.

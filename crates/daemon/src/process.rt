@@ -1,6 +1,8 @@
 //! What is at hand of the whole process.
 
+use memcached_stats::Board;
 use std::alloc::Global;
+use std::sync::OnceLock;
 use std::sync::atomic::AtomicBool;
 
 /// What a server that stays up is run with.
@@ -15,6 +17,8 @@ pub struct Process<'a, W, G> {
     pub ended: &'a AtomicBool,
     /// Set once it is to stop, which its ports then tell as their end.
     pub stopping: &'a AtomicBool,
+    /// Where its fronts show what they count, once it has memory for that. All may look.
+    pub board: &'a OnceLock<Board>,
     /// The number of the process.
     pub pid: u32,
     /// How many processors there are.

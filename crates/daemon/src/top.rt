@@ -170,28 +170,32 @@ fn stay_up<
 >(
     process: &Process<W, G>,
     start: Start,
-    options: &Options,
-    ports: &PortOptions,
-    streams: &StreamOptions,
+    read: &DaemonOptions,
     filling: Vec<Write>,
     speaker: &mut Speaker<K>,
     net: &mut N,
     listeners: &mut L,
     left: &mut Left<Keeper<P, C>>,
 ) -> DaemonStatus
-    requires options { IsPossible options.now }
-    requires fronts { ArePossibleFronts ports.now streams.now.ports }
+    requires options { IsPossible read.now.options }
+    requires fronts { ArePossibleFronts read.now.ports read.now.streams.ports }
     requires filling { All IsWrite filling.items }
     requires unbound { N.binds net.old ≡ 0 }
     requires tables { left.old.tables ≡ [] }
     requires uncounted { left.old.lacked ≡ 0 }
-    ensures { ServesOrNot options.now ports.now streams.now start.base filling.items
+    ensures { ServesOrNot read.now.options read.now.ports read.now.streams start.base filling.items
         (daemon_outside (sink_facts K.Sink speaker.old.sink) (ports_at N.Net L.Listeners net.old listeners.old) left.old.tables left.old.lacked)
         (daemon_outside (sink_facts K.Sink speaker.new.sink) (ports_at N.Net L.Listeners net.new listeners.new) left.new.tables left.new.lacked) result }
 {
-    let Ok(board) = board_of(process, start, options, ports, streams, filling.as_slice()) else {
+    let Ok(board) = board_of(process, start, read, filling.as_slice()) else {
         return DaemonStatus::NoMemory;
     };
+    let DaemonOptions {
+        options,
+        ports,
+        streams,
+        ..
+    } = read;
     let Ok(places) = places_of(process.alloc, streams) else {
         return DaemonStatus::NoMemory;
     };
@@ -211,7 +215,7 @@ fn stay_up<
         rt: process.rt,
         alloc: process.alloc,
         service,
-        board: &board,
+        board,
         gate: process.gate,
         ended: process.ended,
     };
@@ -267,36 +271,29 @@ pub fn daemon<
         (daemon_outside (sink_facts K.Sink speaker.old.sink) (ports_at N.Net L.Listeners net.old listeners.old) left.old.tables left.old.lacked)
         (daemon_outside (sink_facts K.Sink speaker.new.sink) (ports_at N.Net L.Listeners net.new listeners.new) left.new.tables left.new.lacked) result }
 {
-    let DaemonOptions {
-        options,
-        ports,
-        streams,
-        image,
-        save,
-    } = match read_daemon(process.alloc, words, process.processors) {
+    let read = match read_daemon(process.alloc, words, process.processors) {
         Ok(read) => read,
         Err(WordsFault::Usage) => return DaemonStatus::Usage,
         Err(WordsFault::NoMemory) => return DaemonStatus::NoMemory,
     };
-    if !has_memory(process.alloc, files, &options) {
-        speaker.reason = shortage_reason(process.alloc, files, words, &options);
+    if !has_memory(process.alloc, files, &read.options) {
+        speaker.reason = shortage_reason(process.alloc, files, words, &read.options);
         return DaemonStatus::NoMemory;
     }
-    if let Some(name) = save {
-        let begun = match begin_kept(process, start, files, name, &options, &mut speaker.sink) {
-            Ok(begun) => begun,
-            Err(status) => {
-                note_saved(process.alloc, name, status, speaker);
-                return status;
-            }
-        };
+    if let Some(name) = read.save {
+        let begun =
+            match begin_kept(process, start, files, name, &read.options, &mut speaker.sink) {
+                Ok(begun) => begun,
+                Err(status) => {
+                    note_saved(process.alloc, name, status, speaker);
+                    return status;
+                }
+            };
         left.keeper.saving = Some(begun.saving);
         return stay_up(
             process,
             begun.start,
-            &options,
-            &ports,
-            &streams,
+            &read,
             begun.filling,
             speaker,
             net,
@@ -304,12 +301,12 @@ pub fn daemon<
             left,
         );
     }
-    match filling_of(process.alloc, files, image, &mut speaker.sink) {
+    match filling_of(process.alloc, files, read.image, &mut speaker.sink) {
         Ok(filling) => stay_up(
-            process, start, &options, &ports, &streams, filling, speaker, net, listeners, left,
+            process, start, &read, filling, speaker, net, listeners, left,
         ),
         Err(status) => {
-            note_image(process.alloc, image, status, speaker);
+            note_image(process.alloc, read.image, status, speaker);
             status
         }
     }

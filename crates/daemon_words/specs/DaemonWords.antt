@@ -18,7 +18,7 @@ use Rattle.daemon_words.specs.declared.streams.StreamPorts.{StreamPorts}
 use Rattle.option_words.specs.Words.{Text}
 use Rattle.daemon_words.specs.Memory.{memory_of, memory_name}
 use Rattle.option_words.specs.Settings.{Setting, number, power_of_two, mode, tries, port, value_of, read_as, ◌>>=◌}
-use Rattle.daemon_words.specs.StreamWords.{stream_names, has_streams, streams_given}
+use Rattle.daemon_words.specs.StreamWords.{stream_names, has_streams, memory_among, streams_given}
 
 -- its options for partitions have the names of those of `serve`, and all the values that partitions can be made of
 abbrev pub partitions : Setting ℕ
@@ -48,6 +48,10 @@ sizes_by_words given =
 -- one of them is given
 abbrev pub gives_size : (Text → Option Text) → Bool
 gives_size given = is_some (given partitions.name) || is_some (given buckets.name) || is_some (given spares.name) || is_some (given words.name)
+
+-- how much memory sizes are made for, where they are not given one by one
+abbrev pub memory_given : (Text → Option Text) → Option ℕ
+memory_given given = if gives_size given then None else Some (memory_among given)
 
 -- the sizes for the memory that is given, beside which none of them may be; with nothing given, for the least
 abbrev pub sizes_by : Mode → (Text → Option Text) → Option Text → Option Sizes
@@ -114,10 +118,11 @@ ports_by given (Some text) = lasting_ports given
 abbrev pub ports_given : (Text → Option Text) → Option PortOptions
 ports_given given = ports_by given (given port.name)
 
--- what it is to do: its partitions, its ports of datagrams and its port of connections, the file whose image fills it, if one does, and the file that keeps its
--- items, if one does
+-- what it is to do: its partitions and the memory that their sizes are made for, its ports of datagrams and its port of connections, the file whose image fills it, if
+-- one does, and the file that keeps its items, if one does
 pub record Service : Type 0 where
   pub options : Options
+  pub memory : Option ℕ
   pub ports : PortOptions
   pub streams : StreamOptions
   pub image : Option Text
@@ -139,7 +144,7 @@ daemon_given processors given =
     ports_given given >>= λ ports.
     streams_given processors given >>= λ streams.
     if may_fill options.mode (given image_name) && may_save ports (given image_name) (given save_name)
-    then Some (record { options = options; ports = ports; streams = streams; image = given image_name; save = given save_name })
+    then Some (record { options = options; memory = memory_given given; ports = ports; streams = streams; image = given image_name; save = given save_name })
     else None
 
 -- what words give beside so many processors
@@ -148,7 +153,14 @@ daemon_of processors words = read_as daemon_names (daemon_given processors) word
 
 -- of what was read
 abbrev pub service_of : DaemonOptions → Service
-service_of read = record { options = read.options; ports = read.ports; streams = read.streams; image = option_map (λ name. name.now) read.image; save = option_map (λ name. name.now) read.save }
+service_of read = record {
+  options = read.options;
+  memory = read.memory;
+  ports = read.ports;
+  streams = read.streams;
+  image = option_map (λ name. name.now) read.image;
+  save = option_map (λ name. name.now) read.save;
+}
 
 -- the ranges of its ports, and of how many fronts there are: one at least
 pub record ArePossibleFronts (ports : PortOptions) (streams : StreamPorts) : Type 0 where

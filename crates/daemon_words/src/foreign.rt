@@ -101,7 +101,7 @@ static FOREIGN: [Foreign; 31] = [
     Foreign {
         short: "-B",
         long: "--protocol",
-        instead: "a connection speaks the text protocol or the binary one, as it begins: leave it out",
+        instead: "text and binary are told apart by the first byte of each command: leave it out",
     },
     Foreign {
         short: "-C",

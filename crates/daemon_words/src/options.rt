@@ -1,10 +1,10 @@
 //! The words of a server that stays up.
 ghost use Rattle.std.specs.Prelude.{◌≡◌, map, string_bytes, option_map};
 ghost use Rattle.clap.specs.Matches.{first_value, found_of};
-ghost use Rattle.daemon_words.specs.DaemonWords.{sizes_by_words, gives_size, sizes_given, mode_given, service_options, lasting_ports, ports_given, daemon_given, daemon_of, service_of, IsDaemonReading};
+ghost use Rattle.daemon_words.specs.DaemonWords.{sizes_by_words, gives_size, memory_given, sizes_given, mode_given, service_options, lasting_ports, ports_given, daemon_given, daemon_of, service_of, IsDaemonReading};
 
 use crate::memory::memory_of;
-use crate::streams::{StreamOptions, has_streams, streams_given};
+use crate::streams::{StreamOptions, has_streams, memory_among, streams_given};
 use clap::ArgMatches;
 use option_words::{WordsFault, count, matches_of, mode, number, power_of_two, required};
 use partition_model::{MOST_PARTITIONS, MOST_SPARES, MOST_WEAR, MOST_WORDS, Mode, Options};
@@ -16,6 +16,8 @@ use std::alloc::Global;
 #[derive(Drop)]
 pub struct DaemonOptions<'a> {
     pub options: Options,
+    /// How much memory sizes of partitions were made for, where these are not given one by one.
+    pub memory: Option<u64>,
     /// The ports of datagrams: none beside ports of connections.
     pub ports: PortOptions,
     /// The port of connections and their socket: none beside ports of datagrams.
@@ -70,6 +72,17 @@ fn gives_size(found: &ArgMatches<'_>) -> bool
         || found.get_str("buckets").is_some()
         || found.get_str("spares").is_some()
         || found.get_str("words").is_some()
+}
+
+// How much memory sizes are made for, where they are not given one by one.
+fn memory_given(found: &ArgMatches<'_>) -> Option<u64>
+    ensures { result ≡ memory_given (first_value (found_of found.now)) }
+{
+    if gives_size(found) {
+        None
+    } else {
+        Some(memory_among(found))
+    }
 }
 
 // The sizes that are given one by one, or those for the memory that is given, or for the least.
@@ -162,6 +175,7 @@ fn daemon_options<'a>(found: &ArgMatches<'a>, processors: u32) -> Option<DaemonO
     }
     Some(DaemonOptions {
         options,
+        memory: memory_given(found),
         ports,
         streams,
         image,

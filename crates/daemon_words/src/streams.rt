@@ -144,8 +144,8 @@ fn item_size(found: &ArgMatches<'_>) -> Option<u64>
     }
 }
 
-// How much memory is given, or the least.
-fn memory_among(found: &ArgMatches<'_>) -> u64
+/// How much memory is given, or the least.
+pub(crate) fn memory_among(found: &ArgMatches<'_>) -> u64
     ensures { result ≡ memory_among (first_value (found_of found.now)) }
 {
     match found.get_str("memory") {

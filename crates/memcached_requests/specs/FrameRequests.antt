@@ -1,5 +1,5 @@
 -- What frames of the binary protocol want.
-use Rattle.std.specs.Prelude.{ℕ, ◌==◌, ◌||◌, Bool, true, false, List, [], ◌∷◌, length, drop, nat_lt, nat_le, codes, bytes_eq, Option, Some, None, if◌then◌else◌}
+use Rattle.std.specs.Prelude.{ℕ, ◌==◌, Bool, true, false, List, [], ◌∷◌, length, drop, nat_lt, nat_le, Option, Some, None, if◌then◌else◌}
 use Rattle.std.specs.Int.{w32, w64, from_be_bytes}
 use Rattle.memcached_text.specs.declared.command.Wants.{Wants}
 use Rattle.memcached_text.specs.declared.command.Wants.TheVariants.{Whatever, Absent, Present, Numbered}
@@ -12,6 +12,9 @@ use Rattle.memcached_text.specs.declared.fault.Fault.TheVariants as faults
 use Rattle.memcached_text.specs.declared.reply.Reply.TheVariants as replies
 use Rattle.memcached_text.specs.declared.lifetime.Lifetime.{Lifetime}
 use Rattle.memcached_text.specs.declared.lifetime.Lifetime.TheVariants.{Forever, For, Until}
+use Rattle.memcached_text.specs.declared.command.Topic.{Topic}
+use Rattle.memcached_text.specs.declared.command.Topic.TheVariants.{Server}
+use Rattle.memcached_text.specs.ServerLine.{topic_of}
 use Rattle.memcached_text.specs.declared.lifetime.Due.{Due}
 use Rattle.memcached_text.specs.declared.lifetime.Due.TheVariants.{Now, After, At}
 use Rattle.memcached_commands.specs.declared.ask.Initial.{Initial}
@@ -90,15 +93,14 @@ ask_by verbs.Touch frame = touch_of frame
 ask_by verbs.GetTouch frame = touch_of frame
 ask_by _ frame = asks.Get
 
--- the parts of memcached that clients ask for, and that this server does not have
-abbrev pub is_part : List ℕ → Bool
-is_part word =
-    bytes_eq word (codes "items") || bytes_eq word (codes "slabs") || bytes_eq word (codes "settings")
-    || bytes_eq word (codes "sizes") || bytes_eq word (codes "conns")
+-- what a stat wants by a topic; there may be none of its name
+abbrev pub stats_on : Option Topic → Request
+stats_on None = Said (Line replies.NotFound)
+stats_on (Some topic) = Stats topic
 
--- what a stat wants, by its key
+-- what it wants by its key
 abbrev pub stats_of : List ℕ → Request
-stats_of word = if length word == 0 then Stats else Said (Line (if is_part word then replies.End else replies.NotFound))
+stats_of word = if length word == 0 then Stats Server else stats_on (topic_of word)
 
 -- what a frame of a verb wants
 abbrev pub request_by : Verb → Frame → Request

@@ -2,7 +2,6 @@
 use Rattle.std.specs.Prelude.{◌==◌, ◌||◌, Bool, true, false, length, Option, Some, None, if◌then◌else◌}
 use Rattle.memcached_text.specs.declared.command.Command.{Command}
 use Rattle.memcached_text.specs.declared.command.Command.TheVariants as commands
-use Rattle.memcached_text.specs.declared.command.Topic.TheVariants.{NoPart}
 use Rattle.memcached_text.specs.declared.reply.Reply.{Reply}
 use Rattle.memcached_text.specs.declared.reply.Reply.TheVariants.{End, Version, Done, Noop, LongLine}
 use Rattle.memcached_text.specs.declared.next.Next as lines
@@ -21,7 +20,6 @@ use Rattle.memcached_requests.specs.Requests.{refused}
 -- what is replied to a command that is carried out by its reply alone; a get may have no keys
 abbrev pub plain_reply : Command → Option Reply
 plain_reply (commands.Get keys unique lifetime) = if length keys == 0 then Some End else None
-plain_reply (commands.Stats NoPart) = Some End
 plain_reply commands.Version = Some Version
 plain_reply (commands.Verbosity quiet) = Some Done
 plain_reply commands.Noop = Some Noop
@@ -31,7 +29,7 @@ plain_reply _ = None
 -- what else a command wants
 abbrev pub wanted_by : Command → Request
 wanted_by (commands.Flush due quiet) = Flush due
-wanted_by (commands.Stats topic) = Stats
+wanted_by (commands.Stats topic) = Stats topic
 wanted_by command = Keys (asks_of command)
 
 abbrev pub request_by : Option Reply → Command → Request

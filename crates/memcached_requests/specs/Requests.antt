@@ -48,7 +48,7 @@ IsFitStale (Some key) = IsFitKey key
 abbrev pub IsFitRequest : Request → Type 0
 IsFitRequest (Keys asks) = AllByRecursion IsFitAsked asks
 IsFitRequest (Flush due) = IsDue due
-IsFitRequest Stats = ⊤
+IsFitRequest (Stats topic) = ⊤
 IsFitRequest (Said says) = shown_len says ≤ MAX_TEXT_LEN
 
 abbrev pub IsFitNext : Next → Type 0

@@ -7,14 +7,14 @@ ghost use Rattle.memcached_text.specs.Lifetimes.{IsDue, IsLifetime};
 ghost use Rattle.memcached_commands.specs.Fit.{IsFitAsk, IsFitInitial};
 ghost use Rattle.memcached_frames.specs.Fit as frames;
 ghost use Rattle.memcached_frames.specs.Opcodes.{fits_extras};
-ghost use Rattle.memcached_requests.specs.FrameRequests.{lifetime_at, due_at, due_in, wanted, wants_of, initial_of, store_of, count_of, join_of, touch_of, ask_by, is_part, stats_of, request_in, is_quit, fault_of, of_frame};
+ghost use Rattle.memcached_requests.specs.FrameRequests.{lifetime_at, due_at, due_in, wanted, wants_of, initial_of, store_of, count_of, join_of, touch_of, ask_by, stats_of, request_in, is_quit, fault_of, of_frame};
 ghost use Rattle.memcached_requests.specs.Requests.{IsFitNext, IsFitRequest};
 
 use crate::request::{Next, Request, Style, refused};
 use byteorder::{BigEndian, ByteOrder};
 use memcached_commands::{Ask, Asks, Initial, Says};
 use memcached_frames::{Frame, FrameFault, FrameNext, Verb};
-use memcached_text::{Direction, Due, Fault, Lifetime, Reply, Side, Wants};
+use memcached_text::{Direction, Due, Fault, Lifetime, Reply, Side, Topic, Wants, topic_of};
 
 /// The most seconds that are counted from now on: thirty days. A greater number is a time of day.
 const MOST_SECONDS: u32 = 2_592_000;
@@ -167,29 +167,17 @@ fn ask_by<'a>(frame: &Frame<'a>) -> Ask<'a>
     }
 }
 
-// Whether the word is one of the parts of memcached that clients ask for, and that this server does not have.
-fn is_part(word: &[u8]) -> bool
-    ensures { result ≡ is_part word.now }
-{
-    word == b"items".as_slice()
-        || word == b"slabs".as_slice()
-        || word == b"settings".as_slice()
-        || word == b"sizes".as_slice()
-        || word == b"conns".as_slice()
-}
-
 fn stats_of<'a>(word: &[u8]) -> Request<'a>
     ensures is { result ≡ stats_of word.now }
     ensures fit { IsFitRequest result }
 {
     if word.is_empty() {
-        return Request::Stats;
+        return Request::Stats(Topic::Server);
     }
-    Request::Said(Says::Line(if is_part(word) {
-        Reply::End
-    } else {
-        Reply::NotFound
-    }))
+    match topic_of(word) {
+        Some(topic) => Request::Stats(topic),
+        None => Request::Said(Says::Line(Reply::NotFound)),
+    }
 }
 
 fn request_in<'a>(frame: &Frame<'a>) -> Request<'a>

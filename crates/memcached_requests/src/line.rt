@@ -6,7 +6,7 @@ ghost use Rattle.memcached_requests.specs.Requests as requests;
 
 use crate::request::{Next, Request, Style, refused};
 use memcached_commands::{Asks, Says, wants_numbers};
-use memcached_text::{Command, Reply, Topic, Words};
+use memcached_text::{Command, Reply, Words};
 
 fn has_none(words: &Words) -> bool
     ensures { result ≡ (length words.now == 0) }
@@ -20,7 +20,6 @@ fn plain_reply(command: &Command) -> Option<Reply>
 {
     match command {
         Command::Get { keys, .. } if has_none(keys) => Some(Reply::End),
-        Command::Stats { topic } if *topic == Topic::NoPart => Some(Reply::End),
         Command::Version => Some(Reply::Version),
         Command::Verbosity { .. } | Command::Quit => Some(Reply::Done),
         Command::Noop => Some(Reply::Noop),
@@ -38,7 +37,7 @@ fn request_of<'a>(command: Command<'a>) -> Request<'a>
     }
     match command {
         Command::Flush { due, .. } => Request::Flush(due),
-        Command::Stats { .. } => Request::Stats,
+        Command::Stats { topic } => Request::Stats(topic),
         _ => Request::Keys(Asks::of(command)),
     }
 }

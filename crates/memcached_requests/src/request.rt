@@ -5,7 +5,7 @@ ghost use Rattle.memcached_requests.specs.Requests.{IsFitRequest, IsFitStale, is
 use memcached_commands::{Ask, Asks, Says};
 use memcached_frames::Echo;
 use memcached_meta::{Manner, MetaFault};
-use memcached_text::{Due, Fault, Text};
+use memcached_text::{Due, Fault, Text, Topic};
 
 /// What a client wants, in whatever way it is spelled.
 #[derive(Drop)]
@@ -14,8 +14,8 @@ pub enum Request<'a> {
     Keys(Asks<'a>),
     /// All items that are stored before it is due are to go then.
     Flush(Due),
-    /// What the server counts.
-    Stats,
+    /// What is told of this.
+    Stats(Topic),
     /// Nothing but this reply. What is refused is told so.
     Said(Says<'a>),
 }

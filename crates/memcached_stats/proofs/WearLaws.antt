@@ -1,12 +1,12 @@
 -- Of one partition after another it is told how far it is worn.
-use Rattle.std.proofs.Common.{◌≡◌, ℕ, zero, suc, ◌+◌, List, ◌++◌, flat_map, sym, ap, ◌∙◌, append_assoc, arith}
+use Rattle.std.proofs.Common.{◌≡◌, ℕ, zero, suc, ◌+◌, List, ◌++◌, sym, ap, ◌∙◌, append_assoc, arith}
 use Rattle.std.proofs.lemmas.List.{append-nil}
 use Rattle.memcached_requests.specs.declared.request.Style.{Style}
 use Rattle.memcached_stats.specs.declared.figures.Wear.{Wear}
-use Rattle.memcached_stats.specs.Stats.{line_of, wear_stats, wear_text}
+use Rattle.memcached_stats.specs.Stats.{lines_of, wear_stats, wear_text}
 
 abbrev one : Style → ℕ → (ℕ → Wear) → List ℕ
-one style p wear = flat_map (line_of style) (wear_stats p (wear p))
+one style p wear = lines_of style (wear_stats p (wear p))
 
 -- with one partition more
 pub one_more : (style : Style) (first count : ℕ) (wear : ℕ → Wear) → wear_text style first (suc count) wear ≡ wear_text style first count wear ++ one style (first + count) wear

@@ -1,14 +1,18 @@
 -- What is counted of commands: which counter is raised by what a key was asked and what was said of it.
-use Rattle.std.specs.Prelude.{false, Option, None, Some}
+use Rattle.std.specs.Prelude.{true, false, List, ℕ, nat_le, Option, None, Some, if◌then◌else◌}
 use Rattle.memcached_text.specs.declared.command.Direction.{Direction}
 use Rattle.memcached_text.specs.declared.command.Direction.TheVariants.{Up, Down}
 use Rattle.memcached_text.specs.declared.command.Wants.TheVariants.{Numbered, AtLeast}
 use Rattle.memcached_text.specs.declared.fault.Fault.{Fault}
 use Rattle.memcached_text.specs.declared.fault.Fault.TheVariants.{BadBlock, TooLarge}
 use Rattle.memcached_text.specs.declared.lifetime.Lifetime.{Lifetime}
-use Rattle.memcached_text.specs.declared.reply.Reply.TheVariants.{Exists, Deleted, NotFound, NoRoom, Touched}
+use Rattle.memcached_text.specs.declared.item.Item.{Item}
+use Rattle.memcached_text.specs.declared.reply.Reply.TheVariants.{Exists, Deleted, NotFound, NotStored, NoRoom, Touched}
+use Rattle.memcached_text.specs.Item.{item_in}
 use Rattle.memcached_commands.specs.declared.ask.Ask.{Ask}
 use Rattle.memcached_commands.specs.declared.ask.Ask.TheVariants.{Get, GetTouch, Leased, Store, Join, Count, Touch, Delete, Mark, Spoil}
+use Rattle.memcached_commands.specs.declared.moment.Moment.{Moment}
+use Rattle.memcached_commands.specs.Moments.{is_there}
 use Rattle.memcached_commands.specs.declared.ask.Says.{Says}
 use Rattle.memcached_commands.specs.declared.ask.Says.TheVariants.{Line, Refusal, Stores, Number, Shows, Leases, Nothing}
 use Rattle.memcached_requests.specs.declared.request.Request.TheVariants.{Flush, Said}
@@ -76,6 +80,23 @@ counter_of (Delete unique) says = counter_of_delete says
 counter_of (Mark unique lifetime) (Line NotFound) = Some counters.DeleteMisses
 counter_of Spoil says = Some counters.StoresTooLarge
 counter_of _ _ = None
+
+-- by an item that is not there any more: its own end came, or a flush took it
+abbrev pub counter_of_gone : Moment → Item → Option Counter
+counter_of_gone at item = if is_there at item then None else Some (if nat_le at.flushed item.unique then counters.Expired else counters.Flushed)
+
+abbrev pub counter_of_stored : Moment → Option (List ℕ) → Option Counter
+counter_of_stored at None = None
+counter_of_stored at (Some stored) = counter_of_gone at (item_in stored)
+
+-- And beside that by what was said of a key: each item that is stored, and what is stored of a key that was looked for and not found.
+abbrev pub counter_beside : Says → Option Counter → Option Counter
+counter_beside (Stores unique) stored = Some counters.Items
+counter_beside (Number n unique left true) stored = Some counters.Items
+counter_beside Nothing stored = stored
+counter_beside (Line NotFound) stored = stored
+counter_beside (Line NotStored) stored = stored
+counter_beside _ stored = None
 
 -- by what is refused: a store whose block came with no end behind it, and one of a value that is too long
 abbrev pub counter_of_refusal : Fault → Option Counter

@@ -1,9 +1,9 @@
 -- The numbers that are told, where they were added up.
-use Rattle.std.specs.Prelude.{ℕ, List, min, slice_get, unwrap_or}
+use Rattle.std.specs.Prelude.{ℕ, ◌-◌, List, min, slice_get, unwrap_or}
 use Rattle.memcached_stats.specs.declared.counter.Counter.{Counter}
-use Rattle.memcached_stats.specs.declared.counter.Counter.TheVariants.{Sets, CasHits, CasMisses, CasBadval, GetHits, GetMisses, TouchHits, TouchMisses, DeleteHits, DeleteMisses, IncrHits, IncrMisses, DecrHits, DecrMisses, Flushes, StoresTooLarge, StoresRefused, Opened, Closed, Rejected, Lacked, Received, Sent}
-use Rattle.memcached_stats.specs.declared.figures.About.{About}
+use Rattle.memcached_stats.specs.declared.counter.Counter.TheVariants.{Sets, CasHits, CasMisses, CasBadval, GetHits, GetMisses, TouchHits, TouchMisses, DeleteHits, DeleteMisses, IncrHits, IncrMisses, DecrHits, DecrMisses, Flushes, StoresTooLarge, StoresRefused, Items, Expired, Flushed, Opened, Closed, Rejected, Lacked, Structures, Yields, Received, Sent}
 use Rattle.memcached_stats.specs.declared.figures.Counts.{Counts}
+use Rattle.memcached_stats.specs.declared.figures.Figures.{Figures}
 use Rattle.memcached_stats.specs.declared.figures.Wear.{Wear}
 use Rattle.memcached_stats.specs.Stats.{Told}
 use Rattle.memcached_stats.specs.declared.figures.TheConstants.{MOST_COUNT}
@@ -26,19 +26,37 @@ place_of_counter DecrMisses = 13
 place_of_counter Flushes = 14
 place_of_counter StoresTooLarge = 15
 place_of_counter StoresRefused = 16
-place_of_counter Opened = 17
-place_of_counter Closed = 18
-place_of_counter Rejected = 19
-place_of_counter Lacked = 20
-place_of_counter Received = 21
-place_of_counter Sent = 22
+place_of_counter Items = 17
+place_of_counter Expired = 18
+place_of_counter Flushed = 19
+place_of_counter Opened = 20
+place_of_counter Closed = 21
+place_of_counter Rejected = 22
+place_of_counter Lacked = 23
+place_of_counter Structures = 24
+place_of_counter Yields = 25
+place_of_counter Received = 26
+place_of_counter Sent = 27
 
 abbrev pub count_in : Counts → Counter → ℕ
 count_in counts counter = min (unwrap_or (slice_get counts.numbers (place_of_counter counter)) 0) MOST_COUNT
+
+-- how often it had been when counts were told to begin anew
+abbrev pub before_in : Counts → Counter → ℕ
+before_in counts counter = unwrap_or (slice_get counts.before (place_of_counter counter)) 0
+
+-- how often it was since
+abbrev pub since_in : Counts → Counter → ℕ
+since_in counts counter = count_in counts counter - before_in counts counter
 
 abbrev pub wear_in : List Wear → ℕ → Wear
 wear_in wears partition = unwrap_or (slice_get wears partition) (record { writes = 0; writes_left = 0 })
 
 -- all that is told
-abbrev pub told_of : About → Counts → List Wear → Told
-told_of about counts wears = record { about = about; counts = count_in counts; wear = wear_in wears }
+abbrev pub told_of : Figures → Told
+told_of figures = record {
+  about = figures.about;
+  counts = count_in figures.counts;
+  before = before_in figures.counts;
+  wear = wear_in figures.wears;
+}

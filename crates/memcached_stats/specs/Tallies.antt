@@ -1,5 +1,5 @@
 -- What a front has counted for itself.
-use Rattle.std.specs.Prelude.{ℕ, ◌+◌, ◌*◌, min, List, replicate, slice_get, slice_set, unwrap_or, Option, None, Some}
+use Rattle.std.specs.Prelude.{ℕ, ◌+◌, ◌*◌, min, max, List, replicate, slice_get, slice_set, unwrap_or, Option, None, Some}
 use Rattle.outside.specs.Faults.{LAST_COUNT}
 use Rattle.memcached_stats.specs.declared.counter.Counter.{Counter}
 use Rattle.memcached_stats.specs.declared.counter.TheConstants.{COUNTERS}
@@ -25,6 +25,10 @@ put_at place number tally = slice_set tally place number
 -- a counter was raised by so many, up to the greatest number that there is room for
 abbrev pub raised : Counter → ℕ → Numbers → Numbers
 raised counter by tally = put_at (place_of_counter counter) (min (number_at (place_of_counter counter) tally + by) LAST_COUNT) tally
+
+-- it is this number at least
+abbrev pub lifted : Counter → ℕ → Numbers → Numbers
+lifted counter least tally = put_at (place_of_counter counter) (max (number_at (place_of_counter counter) tally) least) tally
 
 -- by one, where there is a counter
 abbrev pub counted : Option Counter → Numbers → Numbers

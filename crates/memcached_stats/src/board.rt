@@ -3,11 +3,13 @@ ghost use Rattle.std.specs.Prelude.{◌≡◌, ◌≤◌, ◌+◌, ◌++◌, len
 ghost use Rattle.memcached_text.specs.declared.limits.TheConstants.{MAX_REPLY_LEN};
 ghost use Rattle.memcached_stats.specs.Stats.{Told, stats_text};
 
-use crate::counter::COUNTERS;
-use crate::figures::{About, Counts, Wear};
-use crate::lines::put_stats;
+use crate::counter::{COUNTERS, Counter};
+use crate::figures::{About, Counts, Figures, Wear};
+use crate::put::put_stats;
 use crate::tally::{MOST_NUMBERS, Tally, place_of_partition};
+use crate::usage::Usage;
 use memcached_requests::Style;
+use memcached_text::Topic;
 use mica_words::tail_of;
 use outside::NoMemory;
 use partition_model::{LARGEST_STORED_ITEM, LAST_TAIL, MOST_PARTITIONS, Mode, Options};
@@ -22,8 +24,16 @@ pub struct Server {
     pub since: u64,
     /// How many fronts it has, of both kinds.
     pub fronts: u32,
+    /// How much memory it was given, in bytes.
+    pub memory: u64,
+    /// How many bytes its indices take.
+    pub hash_bytes: u64,
     /// How many connections it holds at most at a time.
     pub connections: u64,
+    /// Its port of connections over TCP, or 0.
+    pub port: u64,
+    /// For how many seconds a connection may be silent, where that is not 0.
+    pub idle: u64,
 }
 
 // What one front shows of its tally, number by number. All may read it.
@@ -50,12 +60,15 @@ impl Shown {
             let Some(place) = tally.take_changed() else {
                 return;
             };
-            if let (Some(shown), Some(number)) = (
-                self.numbers.get(place),
-                tally.numbers.get(place),
-            ) {
-                shown.store(*number, Ordering::Relaxed);
+            if let Some(number) = tally.numbers.get(place) {
+                self.put(place, *number);
             }
+        }
+    }
+
+    fn put(&self, place: usize, number: u64) {
+        if let Some(shown) = self.numbers.get(place) {
+            shown.store(number, Ordering::Relaxed);
         }
     }
 
@@ -71,8 +84,11 @@ impl Shown {
 #[derive(Drop)]
 pub struct Board {
     server: Server,
+    usage: Usage,
     options: Options,
     fronts: Vec<Shown>,
+    /// How often each counter had been raised when counts were told to begin anew.
+    before: Shown,
 }
 
 impl Board {
@@ -89,8 +105,10 @@ impl Board {
         }
         Ok(Board {
             server,
+            usage: Usage::new(),
             options: *options,
             fronts,
+            before: Shown::new(alloc, 0)?,
         })
     }
 
@@ -110,9 +128,16 @@ impl Board {
             pid: self.server.pid,
             uptime: second.saturating_sub(self.server.since),
             time: second,
+            user: self.usage.user(),
+            system: self.usage.system(),
             threads: u64::from(self.server.fronts),
-            limit_maxbytes: words.saturating_mul(8),
+            limit_maxbytes: self.server.memory,
+            hash_bytes: self.server.hash_bytes,
+            malloced: words.saturating_mul(8),
             max_connections: self.server.connections,
+            port: self.server.port,
+            idle_timeout: self.server.idle,
+            evicts: self.options.mode == Mode::Cache,
         }
     }
 
@@ -124,7 +149,28 @@ impl Board {
                 *number = number.saturating_add(front.number(place));
             }
         }
-        Counts { numbers }
+        let mut before = [0u64; COUNTERS];
+        for (place, number) in before.iter_mut().enumerate() {
+            *number = self.before.number(place);
+        }
+        Counts { numbers, before }
+    }
+
+    /// So much did processors work for the process, in hundredths of a second.
+    pub fn show_work(&self, user: u64, system: u64) {
+        self.usage.show(user, system);
+    }
+
+    /// From now on counts begin anew.
+    pub fn reset(&self) {
+        for (place, number) in self.counts().numbers.iter().enumerate() {
+            self.before.put(place, *number);
+        }
+    }
+
+    /// How often this was counted, added up over those that count.
+    pub fn count(&self, counter: Counter) -> u64 {
+        self.counts().of(counter)
     }
 
     // What a partition bears, by how many writes it accepted and its stamp. In cache mode its log also comes to an end, and a write takes no more of it than the largest item.
@@ -164,25 +210,24 @@ impl Board {
         wears
     }
 
-    /// Appends what the server tells of itself at this second. When out of memory, nothing is appended.
+    /// Appends what the server tells of a topic at this second. When out of memory, nothing is appended.
     pub fn put_stats(
         &self,
         style: &Style,
         second: u64,
         partitions: u32,
+        topic: Topic,
         out: &mut Vec<u8>,
     ) -> Result<(), NoMemory>
-        ensures ok { OnOk result ((told : Told) × (out.new.items ≡ out.old.items ++ stats_text style.now partitions told)) }
+        ensures ok { OnOk result ((told : Told) × (out.new.items ≡ out.old.items ++ stats_text style.now partitions topic told)) }
         ensures short { OnOk result (length out.new.items ≤ length out.old.items + MAX_REPLY_LEN) }
         ensures err { OnErr result (out.new.items ≡ out.old.items) }
     {
-        put_stats(
-            out,
-            style,
-            partitions,
-            &self.about(second),
-            &self.counts(),
-            self.wears().as_slice(),
-        )
+        let figures = Figures {
+            about: self.about(second),
+            counts: self.counts(),
+            wears: self.wears(),
+        };
+        put_stats(out, style, partitions, topic, &figures)
     }
 }

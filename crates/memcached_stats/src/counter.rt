@@ -1,10 +1,10 @@
 //! What a front counts.
-ghost use Rattle.std.specs.Prelude.{◌≡◌};
-ghost use Rattle.memcached_stats.specs.Counted.{counter_by, counter_of, counter_of_store, counter_of_swap, counter_of_get, counter_of_touch, counter_of_lease, counter_of_count, counter_of_delete, counter_of_refusal};
+ghost use Rattle.std.specs.Prelude.{◌≡◌, option_copied};
+ghost use Rattle.memcached_stats.specs.Counted.{counter_by, counter_of, counter_of_store, counter_of_swap, counter_of_get, counter_of_touch, counter_of_lease, counter_of_count, counter_of_delete, counter_beside, counter_of_gone, counter_of_stored, counter_of_refusal};
 
-use memcached_commands::{Ask, Says};
+use memcached_commands::{Ask, Moment, Says, is_there};
 use memcached_requests::{Next, Request};
-use memcached_text::{Direction, Fault, Lifetime, Reply, Wants};
+use memcached_text::{Direction, Fault, Item, Lifetime, Reply, Wants, read_item};
 
 /// What a front counts.
 #[derive(Clone, Copy)]
@@ -29,6 +29,12 @@ pub enum Counter {
     StoresTooLarge,
     /// Those that found no room.
     StoresRefused,
+    /// Items that were stored.
+    Items,
+    /// Keys that were looked for and not found, whose item was over by its own end.
+    Expired,
+    /// Those whose item was flushed.
+    Flushed,
     /// Connections that came.
     Opened,
     /// Those of them that are closed.
@@ -37,6 +43,10 @@ pub enum Counter {
     Rejected,
     /// Those that were closed later since the server was out of memory.
     Lacked,
+    /// The most places for connections that a front ever had.
+    Structures,
+    /// Visits at which more of a connection was left to do.
+    Yields,
     /// Bytes that were received.
     Received,
     /// Bytes that were sent.
@@ -44,7 +54,7 @@ pub enum Counter {
 }
 
 /// How many counters there are.
-pub const COUNTERS: usize = 23;
+pub const COUNTERS: usize = 28;
 
 // By a get.
 fn get_counter(says: &Says) -> Option<Counter>
@@ -147,6 +157,34 @@ pub fn counter_of(ask: &Ask, says: &Says) -> Option<Counter>
         }
         Ask::Mark { .. } => None,
         Ask::Spoil => Some(Counter::StoresTooLarge),
+    }
+}
+
+// By an item that may not be there any more.
+fn gone_counter(at: &Moment, item: &Item) -> Option<Counter>
+    ensures { result ≡ counter_of_gone at.now item.now }
+{
+    if is_there(at, item) {
+        return None;
+    }
+    Some(if at.flushed <= item.unique {
+        Counter::Expired
+    } else {
+        Counter::Flushed
+    })
+}
+
+/// Which counter is raised beside that by what was said of a key, and by what is stored of one that was not found, if any.
+#[inline(always)]
+pub fn counter_beside(says: &Says, at: &Moment, stored: Option<&[u8]>) -> Option<Counter>
+    ensures { result ≡ counter_beside says.now (counter_of_stored at.now (option_copied stored.entry)) }
+{
+    match says {
+        Says::Stores(_) | Says::Number { made: true, .. } => Some(Counter::Items),
+        Says::Nothing | Says::Line(Reply::NotFound) | Says::Line(Reply::NotStored) => {
+            gone_counter(at, &read_item(stored?))
+        }
+        _ => None,
     }
 }
 

@@ -9,9 +9,13 @@ mod board;
 mod counter;
 mod figures;
 mod lines;
+mod put;
+mod server;
 mod tally;
+mod topics;
+mod usage;
 
 pub use board::{Board, Server};
-pub use counter::{COUNTERS, Counter, counter_by, counter_of};
-pub use figures::{About, Counts, Wear};
+pub use counter::{COUNTERS, Counter, counter_beside, counter_by, counter_of};
+pub use figures::{About, Counts, Figures, Wear};
 pub use tally::Tally;

@@ -1,39 +1,75 @@
-//! The text of what is told.
-ghost use Rattle.std.specs.Prelude.{◌≡◌, ◌≤◌, ◌+◌, ◌*◌, ◌++◌, List, ℕ, OnOk, OnErr, flat_map, length, map, sum_by};
+//! Names and their values.
+ghost use Rattle.std.specs.Prelude.{◌≡◌, ◌≤◌, ◌+◌, ◌*◌, ◌++◌, List, ℕ, OnOk, length, map, sum_by};
 ghost use Rattle.std.specs.List.{All};
-ghost use Rattle.memcached_text.specs.declared.limits.TheConstants.{MAX_REPLY_LEN};
-ghost use Rattle.memcached_stats.specs.Figures.{count_in, wear_in, told_of};
-ghost use Rattle.memcached_stats.specs.Lines.{most_len, stat_in};
-ghost use Rattle.memcached_stats.specs.declared.lines.TheConstants.{MOST_NAME};
-ghost use Rattle.memcached_stats.specs.Stats.{about_stats, command_stats, line_of, partition_stat, stat, stats_text, wear_stats, wear_text};
+ghost use Rattle.memcached_stats.specs.Figures.{wear_in};
+ghost use Rattle.memcached_stats.specs.Lines.{IsShort, most_len, stat_in};
+ghost use Rattle.memcached_stats.specs.declared.lines.TheConstants.{MOST_NAME, MOST_VALUE};
+ghost use Rattle.memcached_stats.specs.Stats.{line_of, lines_of, partition_stat, seconds, stat, wear_stats, wear_text, word};
 
-use crate::counter::Counter;
-use crate::figures::{About, Counts, Wear};
+use crate::figures::Wear;
 use itoa::Buffer;
-use memcached_commands::Says;
-use memcached_requests::{Style, put_said, put_stat, version_name};
-use memcached_text::{Reply, append_parts};
+use memcached_requests::{Style, put_stat};
+use memcached_text::append_parts;
 use outside::NoMemory;
-use partition_model::MOST_PARTITIONS;
 
 /// The most bytes of a name.
 const MOST_NAME: usize = 32;
 
-/// A name and its number.
+/// The most bytes of a value.
+const MOST_VALUE: usize = 32;
+
+/// What is told under a name.
+#[derive(Clone, Copy)]
+pub enum Value {
+    Number(u64),
+    /// So many hundredths of a second, in seconds.
+    Hundredths(u64),
+    Word(&'static [u8]),
+}
+
+/// A name and its value.
 #[derive(Clone, Copy)]
 pub struct Line {
     pub name: &'static [u8],
-    pub number: u64,
+    pub value: Value,
 }
 
-fn told(name: &'static [u8], number: u64) -> Line
-    ensures { stat_in result ≡ stat name.now number }
+pub(crate) fn told(name: &'static [u8], number: u64) -> Line
+    requires { length name.now ≤ MOST_NAME }
+    ensures is { stat_in result ≡ stat name.now number }
+    ensures short { IsShort result }
 {
-    Line { name, number }
+    Line {
+        name,
+        value: Value::Number(number),
+    }
+}
+
+pub(crate) fn told_seconds(name: &'static [u8], hundredths: u64) -> Line
+    requires { length name.now ≤ MOST_NAME }
+    ensures is { stat_in result ≡ seconds name.now hundredths }
+    ensures short { IsShort result }
+{
+    Line {
+        name,
+        value: Value::Hundredths(hundredths),
+    }
+}
+
+pub(crate) fn told_word(name: &'static [u8], text: &'static [u8]) -> Line
+    requires name { length name.now ≤ MOST_NAME }
+    requires text { length text.now ≤ MOST_VALUE }
+    ensures is { stat_in result ≡ word name.now text.now }
+    ensures short { IsShort result }
+{
+    Line {
+        name,
+        value: Value::Word(text),
+    }
 }
 
 // Appends a name and its number. When out of memory, nothing is appended.
-fn put_line(out: &mut Vec<u8>, style: &Style, name: &[u8], number: u64) -> Result<(), NoMemory>
+fn put_number(out: &mut Vec<u8>, style: &Style, name: &[u8], number: u64) -> Result<(), NoMemory>
     requires name { length name.now ≤ MOST_NAME }
     ensures ok { OnOk result (out.new.items ≡ out.old.items ++ line_of style.now (stat name.now number)) }
     ensures short { OnOk result (length out.new.items ≤ length out.old.items + most_len (stat name.now number)) }
@@ -43,80 +79,55 @@ fn put_line(out: &mut Vec<u8>, style: &Style, name: &[u8], number: u64) -> Resul
     put_stat(out, style, name, digits.format(number).as_bytes())
 }
 
-// Appends lines. When out of memory, some of them may be appended.
-fn put_lines(out: &mut Vec<u8>, style: &Style, lines: &[Line]) -> Result<(), NoMemory>
-    requires names { All (λ line. length line.name.now ≤ MOST_NAME) lines.now }
-    ensures ok { OnOk result (out.new.items ≡ out.old.items ++ flat_map (line_of style.now) (map stat_in lines.now)) }
+// The same of so many hundredths of a second, in seconds.
+fn put_seconds(
+    out: &mut Vec<u8>,
+    style: &Style,
+    name: &[u8],
+    hundredths: u64,
+) -> Result<(), NoMemory>
+    requires name { length name.now ≤ MOST_NAME }
+    ensures ok { OnOk result (out.new.items ≡ out.old.items ++ line_of style.now (seconds name.now hundredths)) }
+    ensures short { OnOk result (length out.new.items ≤ length out.old.items + most_len (seconds name.now hundredths)) }
+    ensures more { (text : List ℕ) × (out.new.items ≡ out.old.items ++ text) }
+{
+    let tenths = (hundredths / 10 % 10) as u8;
+    let last = (hundredths % 10) as u8;
+    let behind = [b'.', b'0' + tenths, b'0' + last, b'0', b'0', b'0', b'0'];
+    let mut whole = Buffer::new();
+    let mut text = Vec::new(*out.allocator());
+    append_parts(
+        &mut text,
+        &[whole.format(hundredths / 100).as_bytes(), behind.as_slice()],
+    )?;
+    put_stat(out, style, name, &text)
+}
+
+// Appends a line. When out of memory, nothing is appended.
+fn put_line(out: &mut Vec<u8>, style: &Style, line: &Line) -> Result<(), NoMemory>
+    requires { IsShort line.now }
+    ensures ok { OnOk result (out.new.items ≡ out.old.items ++ line_of style.now (stat_in line.now)) }
+    ensures short { OnOk result (length out.new.items ≤ length out.old.items + most_len (stat_in line.now)) }
+    ensures more { (text : List ℕ) × (out.new.items ≡ out.old.items ++ text) }
+{
+    match line.value {
+        Value::Number(number) => put_number(out, style, line.name, number),
+        Value::Hundredths(hundredths) => put_seconds(out, style, line.name, hundredths),
+        Value::Word(text) => put_stat(out, style, line.name, text),
+    }
+}
+
+/// Appends lines. When out of memory, some of them may be appended.
+pub(crate) fn put_lines(out: &mut Vec<u8>, style: &Style, lines: &[Line]) -> Result<(), NoMemory>
+    requires short { All IsShort lines.now }
+    ensures ok { OnOk result (out.new.items ≡ out.old.items ++ lines_of style.now (map stat_in lines.now)) }
     ensures short { OnOk result (length out.new.items ≤ length out.old.items + sum_by most_len (map stat_in lines.now)) }
     ensures more { (text : List ℕ) × (out.new.items ≡ out.old.items ++ text) }
 {
     for line in lines {
-        put_line(out, style, line.name, line.number)?;
+        put_line(out, style, line)?;
     }
     Ok(())
-}
-
-fn about_lines(about: &About, counts: &Counts) -> [Line; 13]
-    ensures are { map stat_in result ≡ about_stats about.now (count_in counts.now) }
-    ensures names { All (λ line. length line.name.now ≤ MOST_NAME) result }
-{
-    let opened = counts.of(Counter::Opened);
-    [
-        told(b"pid", about.pid),
-        told(b"uptime", about.uptime),
-        told(b"time", about.time),
-        told(b"pointer_size", 64),
-        told(b"threads", about.threads),
-        told(b"limit_maxbytes", about.limit_maxbytes),
-        told(b"max_connections", about.max_connections),
-        told(
-            b"curr_connections",
-            opened.saturating_sub(counts.of(Counter::Closed)),
-        ),
-        told(b"total_connections", opened),
-        told(b"rejected_connections", counts.of(Counter::Rejected)),
-        told(b"malloc_fails", counts.of(Counter::Lacked)),
-        told(b"bytes_read", counts.of(Counter::Received)),
-        told(b"bytes_written", counts.of(Counter::Sent)),
-    ]
-}
-
-fn command_lines(counts: &Counts) -> [Line; 19]
-    ensures are { map stat_in result ≡ command_stats (count_in counts.now) }
-    ensures names { All (λ line. length line.name.now ≤ MOST_NAME) result }
-{
-    let (hits, misses) = (counts.of(Counter::GetHits), counts.of(Counter::GetMisses));
-    let (touched, untouched) = (
-        counts.of(Counter::TouchHits),
-        counts.of(Counter::TouchMisses),
-    );
-    let (swapped, absent, others) = (
-        counts.of(Counter::CasHits),
-        counts.of(Counter::CasMisses),
-        counts.of(Counter::CasBadval),
-    );
-    let sets = counts.of(Counter::Sets) + swapped + absent + others;
-    [
-        told(b"cmd_get", hits + misses),
-        told(b"cmd_set", sets),
-        told(b"cmd_flush", counts.of(Counter::Flushes)),
-        told(b"cmd_touch", touched + untouched),
-        told(b"get_hits", hits),
-        told(b"get_misses", misses),
-        told(b"delete_hits", counts.of(Counter::DeleteHits)),
-        told(b"delete_misses", counts.of(Counter::DeleteMisses)),
-        told(b"incr_hits", counts.of(Counter::IncrHits)),
-        told(b"incr_misses", counts.of(Counter::IncrMisses)),
-        told(b"decr_hits", counts.of(Counter::DecrHits)),
-        told(b"decr_misses", counts.of(Counter::DecrMisses)),
-        told(b"cas_hits", swapped),
-        told(b"cas_misses", absent),
-        told(b"cas_badval", others),
-        told(b"touch_hits", touched),
-        told(b"touch_misses", untouched),
-        told(b"store_too_large", counts.of(Counter::StoresTooLarge)),
-        told(b"store_no_memory", counts.of(Counter::StoresRefused)),
-    ]
 }
 
 // Appends one number of a partition. When out of memory, nothing is appended.
@@ -129,7 +140,7 @@ fn put_partition(
 ) -> Result<(), NoMemory>
     requires what { length what.now ≤ 12 }
     ensures ok { OnOk result (out.new.items ≡ out.old.items ++ line_of style.now (partition_stat partition what.now number)) }
-    ensures short { OnOk result (length out.new.items ≤ length out.old.items + 76) }
+    ensures short { OnOk result (length out.new.items ≤ length out.old.items + 88) }
     ensures more { (text : List ℕ) × (out.new.items ≡ out.old.items ++ text) }
 {
     let mut place = Buffer::new();
@@ -138,13 +149,13 @@ fn put_partition(
         &mut name,
         &[b"partition:", place.format(partition).as_bytes(), what],
     )?;
-    put_line(out, style, &name, number)
+    put_number(out, style, &name, number)
 }
 
 // Appends how far a partition is worn. When out of memory, some of it may be appended.
 fn put_wear(out: &mut Vec<u8>, style: &Style, partition: u32, wear: Wear) -> Result<(), NoMemory>
-    ensures ok { OnOk result (out.new.items ≡ out.old.items ++ flat_map (line_of style.now) (wear_stats partition wear)) }
-    ensures short { OnOk result (length out.new.items ≤ length out.old.items + 152) }
+    ensures ok { OnOk result (out.new.items ≡ out.old.items ++ lines_of style.now (wear_stats partition wear)) }
+    ensures short { OnOk result (length out.new.items ≤ length out.old.items + 176) }
     ensures more { (text : List ℕ) × (out.new.items ≡ out.old.items ++ text) }
 {
     put_partition(out, style, partition, b":writes", wear.writes)?;
@@ -162,61 +173,19 @@ fn wear_at(wears: &[Wear], partition: u32) -> Wear
     wears.get(partition as usize).copied().unwrap_or(none)
 }
 
-fn put_wears(
+/// Appends how far so many partitions are worn. When out of memory, some of it may be appended.
+pub(crate) fn put_wears(
     out: &mut Vec<u8>,
     style: &Style,
     partitions: u32,
     wears: &[Wear],
 ) -> Result<(), NoMemory>
     ensures ok { OnOk result (out.new.items ≡ out.old.items ++ wear_text style.now 0 partitions (wear_in wears.now)) }
-    ensures short { OnOk result (length out.new.items ≤ length out.old.items + 152 * partitions) }
+    ensures short { OnOk result (length out.new.items ≤ length out.old.items + 176 * partitions) }
     ensures more { (text : List ℕ) × (out.new.items ≡ out.old.items ++ text) }
 {
     for partition in 0..partitions {
         put_wear(out, style, partition, wear_at(wears, partition))?;
     }
     Ok(())
-}
-
-// Appends all that is told. When out of memory, some of it may be appended.
-#[tactic(auto, unfolding(crate::specs::Stats::stats_text))]
-fn put_all(
-    out: &mut Vec<u8>,
-    style: &Style,
-    partitions: u32,
-    about: &About,
-    counts: &Counts,
-    wears: &[Wear],
-) -> Result<(), NoMemory>
-    ensures ok { OnOk result (out.new.items ≡ out.old.items ++ stats_text style.now partitions (told_of about.now counts.now wears.now)) }
-    ensures short { OnOk result (length out.new.items ≤ length out.old.items + MAX_REPLY_LEN) }
-    ensures more { (text : List ℕ) × (out.new.items ≡ out.old.items ++ text) }
-{
-    put_stat(out, style, b"version", version_name())?;
-    put_lines(out, style, &about_lines(about, counts))?;
-    put_lines(out, style, &command_lines(counts))?;
-    put_wears(out, style, partitions.min(MOST_PARTITIONS), wears)?;
-    put_said(out, style, true, b"", &Says::Line(Reply::End))?;
-    Ok(())
-}
-
-/// Appends what a server tells of itself. When out of memory, nothing is appended.
-pub fn put_stats(
-    out: &mut Vec<u8>,
-    style: &Style,
-    partitions: u32,
-    about: &About,
-    counts: &Counts,
-    wears: &[Wear],
-) -> Result<(), NoMemory>
-    ensures ok { OnOk result (out.new.items ≡ out.old.items ++ stats_text style.now partitions (told_of about.now counts.now wears.now)) }
-    ensures short { OnOk result (length out.new.items ≤ length out.old.items + MAX_REPLY_LEN) }
-    ensures err { OnErr result (out.new.items ≡ out.old.items) }
-{
-    let start = out.len();
-    let put = put_all(out, style, partitions, about, counts, wears);
-    if put.is_err() {
-        out.truncate(start);
-    }
-    put
 }

@@ -1,7 +1,7 @@
 //! What a front counts for itself.
 
 ghost use Rattle.std.specs.Prelude.{◌≡◌, ◌<◌, ◌+◌, ◌*◌, ◌^◌};
-ghost use Rattle.memcached_stats.specs.Tallies.{counted, none_tallied, noted, number_at, put_at, raised};
+ghost use Rattle.memcached_stats.specs.Tallies.{counted, lifted, none_tallied, noted, number_at, put_at, raised};
 
 use crate::counter::{COUNTERS, Counter};
 use partition_model::MOST_PARTITIONS;
@@ -85,6 +85,15 @@ impl Tally {
         let place = counter as usize;
         let number = self.number(place);
         self.put(place, number.saturating_add(by));
+    }
+
+    /// Lifts a counter to this number, where it is less.
+    pub fn lift(&mut self, counter: Counter, least: u64)
+        ensures { self.new ≡ lifted counter least self.old }
+    {
+        let place = counter as usize;
+        let number = self.number(place);
+        self.put(place, number.max(least));
     }
 
     /// Raises a counter by one, if any.

@@ -9,7 +9,7 @@ use Rattle.std.proofs.lemmas.Grind.{common_steps}
 use Rattle.memcached_text.specs.declared.fault.Fault.{Fault}
 use Rattle.memcached_text.specs.declared.fault.Fault.TheVariants.{Unknown, Format, DeleteUsage, ExpiryFormat, DeltaFormat, BadBlock, TooLarge, NotNumber, NotSupported}
 use Rattle.memcached_text.specs.declared.reply.Reply.{Reply}
-use Rattle.memcached_text.specs.declared.reply.Reply.TheVariants.{Stored, NotStored, Exists, NoRoom, NoRoomToCount, Deleted, NotFound, Touched, End, Version, Done, Noop, LongLine}
+use Rattle.memcached_text.specs.declared.reply.Reply.TheVariants.{Stored, NotStored, Exists, NoRoom, NoRoomToCount, Deleted, NotFound, Touched, End, Version, Done, Noop, Reset, LongLine}
 use Rattle.memcached_text.specs.Lines.{Lacks}
 use Rattle.memcached_text.specs.Replies.{reply_text, fault_text, number_text, stat_text, value_text, FoundValue}
 use Rattle.memcached_text.specs.Answer.{Stat, IsStat, Part, value, stat, Last, line, refusal, number, part_text, last_text, IsPart, IsLast, IsOneAnswer}
@@ -36,6 +36,7 @@ reply_is_line End = record { line = codes "END\r"; whole = refl; lacks = search 
 reply_is_line Version = record { line = codes "VERSION 1.6.18\r"; whole = refl; lacks = search rules }
 reply_is_line Done = record { line = codes "OK\r"; whole = refl; lacks = search rules }
 reply_is_line Noop = record { line = codes "MN\r"; whole = refl; lacks = search rules }
+reply_is_line Reset = record { line = codes "RESET\r"; whole = refl; lacks = search rules }
 reply_is_line LongLine = record { line = codes "CLIENT_ERROR line too long\r"; whole = refl; lacks = search rules }
 
 fault_is_line : (fault : Fault) → IsLine (fault_text fault)
@@ -87,6 +88,7 @@ reply_is_other End = record { no_value = λ x. refl; no_stat = λ x. refl }
 reply_is_other Version = record { no_value = λ x. refl; no_stat = λ x. refl }
 reply_is_other Done = record { no_value = λ x. refl; no_stat = λ x. refl }
 reply_is_other Noop = record { no_value = λ x. refl; no_stat = λ x. refl }
+reply_is_other Reset = record { no_value = λ x. refl; no_stat = λ x. refl }
 reply_is_other LongLine = record { no_value = λ x. refl; no_stat = λ x. refl }
 
 fault_is_other : (fault : Fault) → IsOther (fault_text fault)

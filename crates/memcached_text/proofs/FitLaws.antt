@@ -15,7 +15,7 @@ use Rattle.memcached_text.specs.declared.command.Wants.TheVariants.{Whatever, Ab
 use Rattle.memcached_text.specs.declared.command.Direction.{Direction}
 use Rattle.memcached_text.specs.declared.command.Direction.TheVariants.{Up, Down}
 use Rattle.memcached_text.specs.declared.command.Side.TheVariants.{Front, Back}
-use Rattle.memcached_text.specs.declared.command.Topic.TheVariants.{NoPart}
+use Rattle.memcached_text.specs.declared.command.Topic.{Topic}
 use Rattle.memcached_text.specs.declared.storage_line.Verb.{Verb}
 use Rattle.memcached_text.specs.declared.storage_line.Verb.TheVariants.{Store, Join}
 use Rattle.memcached_text.specs.declared.storage_line.ItemLine.{ItemLine}
@@ -33,7 +33,7 @@ use Rattle.memcached_text.specs.Lifetimes.{lifetime_at, lifetime_below, lifetime
 use Rattle.memcached_text.specs.Line.{is_short, is_key, is_noreply, refused, quiet_tail}
 use Rattle.memcached_text.specs.StorageLine.{◌>>=◌, block_len, item_of, numbered_item_of, stored, set_line, cas_line, dropped, drop_meta_line, command_by, stale_by}
 use Rattle.memcached_text.specs.KeyLine.{got, get_line, got_by, get_touch_line, deleted, delete_line, counted_by, counted, count_line, touched_by, touched, touch_line}
-use Rattle.memcached_text.specs.ServerLine.{flushed, flush_line, is_part, stats_line, verbosity_by, verbosity_line}
+use Rattle.memcached_text.specs.ServerLine.{flushed, flush_line, line_on, stats_line, topic_of, verbosity_by, verbosity_line}
 use Rattle.memcached_text.specs.Forms.{Form, forms, line_by, ends_as_http, or_unknown, line_of}
 use Rattle.memcached_text.specs.Block.{block_at}
 use Rattle.memcached_text.specs.Next.{blocked, storing_at, says_at, next_in, is_binary, next_of, most_line}
@@ -267,11 +267,11 @@ flush_fits (a ∷ b ∷ c ∷ words) = tt
 stats_fits : (words : List (List ℕ)) → IsFitOption (stats_line words)
 unfolding stats_line
 stats_fits [] = tt
-stats_fits (word ∷ words) = go (is_part word)
+stats_fits (word ∷ words) = go (topic_of word)
   where
-    go : (t : Bool) → IsFitOption (cond t (Some (lines.Whole (commands.Stats NoPart))) None)
-    go true = tt
-    go false = tt
+    go : (topic : Option Topic) → IsFitOption (option_map line_on topic)
+    go (Some topic) = tt
+    go None = tt
 
 verbosity_fits : (words : List (List ℕ)) → IsFitOption (verbosity_line words)
 unfolding verbosity_line

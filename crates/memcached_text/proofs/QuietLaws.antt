@@ -12,7 +12,7 @@ use Rattle.memcached_text.specs.declared.command.Direction.{Direction}
 use Rattle.memcached_text.specs.declared.command.Direction.TheVariants.{Up, Down}
 use Rattle.memcached_text.specs.declared.command.Side.TheVariants.{Front, Back}
 use Rattle.memcached_text.specs.declared.command.Wants.TheVariants.{Whatever, Absent, Present}
-use Rattle.memcached_text.specs.declared.command.Topic.TheVariants.{NoPart}
+use Rattle.memcached_text.specs.declared.command.Topic.{Topic}
 use Rattle.memcached_text.specs.declared.lifetime.Due.TheVariants.{Now}
 use Rattle.memcached_text.specs.declared.fault.Fault.{Fault}
 use Rattle.memcached_text.specs.declared.fault.Fault.TheVariants as faults
@@ -30,7 +30,7 @@ use Rattle.memcached_text.specs.Lifetimes.{lifetime_of}
 use Rattle.memcached_text.specs.Line.{is_key, is_noreply, refused, quiet_tail}
 use Rattle.memcached_text.specs.StorageLine.{block_len, item_of, numbered_item_of, stored, set_line, cas_line, dropped, drop_meta_line, command_by}
 use Rattle.memcached_text.specs.KeyLine.{got, get_line, got_by, get_touch_line, deleted, delete_line, counted_by, counted, count_line, touched_by, touched, touch_line}
-use Rattle.memcached_text.specs.ServerLine.{flushed, flush_line, is_part, stats_line, verbosity_by, verbosity_line}
+use Rattle.memcached_text.specs.ServerLine.{flushed, flush_line, line_on, stats_line, topic_of, verbosity_by, verbosity_line}
 use Rattle.memcached_text.specs.Forms.{Form, forms, line_by, ends_as_http, or_unknown, line_of}
 use Rattle.memcached_text.specs.Block.{block_at}
 use Rattle.memcached_text.specs.Next.{blocked, storing_at, says_at, is_binary, next_of}
@@ -178,11 +178,11 @@ flush_quiet (a ∷ b ∷ c ∷ words) = tt
 stats_quiet : (words : List (List ℕ)) → IsQuietOption false (stats_line words)
 unfolding stats_line
 stats_quiet [] = refl
-stats_quiet (word ∷ words) = go (is_part word)
+stats_quiet (word ∷ words) = go (topic_of word)
   where
-    go : (t : Bool) → IsQuietOption false (cond t (Some (lines.Whole (commands.Stats NoPart))) None)
-    go true = refl
-    go false = tt
+    go : (topic : Option Topic) → IsQuietOption false (option_map line_on topic)
+    go (Some topic) = refl
+    go None = tt
 
 verbosity_quiet : (words : List (List ℕ)) → IsQuietOption (ends_quietly words) (verbosity_line words)
 unfolding verbosity_line

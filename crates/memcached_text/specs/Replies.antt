@@ -5,7 +5,7 @@ use Rattle.memcached_text.specs.declared.limits.TheConstants.{MAX_TEXT_LEN}
 use Rattle.memcached_text.specs.declared.fault.Fault.{Fault}
 use Rattle.memcached_text.specs.declared.fault.Fault.TheVariants.{Unknown, Format, DeleteUsage, ExpiryFormat, DeltaFormat, BadBlock, TooLarge, NotNumber, NotSupported}
 use Rattle.memcached_text.specs.declared.reply.Reply.{Reply}
-use Rattle.memcached_text.specs.declared.reply.Reply.TheVariants.{Stored, NotStored, Exists, NoRoom, NoRoomToCount, Deleted, NotFound, Touched, End, Version, Done, Noop, LongLine}
+use Rattle.memcached_text.specs.declared.reply.Reply.TheVariants.{Stored, NotStored, Exists, NoRoom, NoRoomToCount, Deleted, NotFound, Touched, End, Version, Done, Noop, Reset, LongLine}
 use Rattle.memcached_text.specs.Lines.{Lacks}
 
 -- the line of a reply
@@ -22,6 +22,7 @@ reply_text End = codes "END\r\n"
 reply_text Version = codes "VERSION 1.6.18\r\n"
 reply_text Done = codes "OK\r\n"
 reply_text Noop = codes "MN\r\n"
+reply_text Reset = codes "RESET\r\n"
 reply_text LongLine = codes "CLIENT_ERROR line too long\r\n"
 
 -- the line that is replied to what is refused

@@ -1,8 +1,9 @@
 -- Lines about the server: flush_all, stats, verbosity.
-use Rattle.std.specs.Prelude.{ℕ, ◌||◌, Bool, true, false, List, [], ◌∷◌, codes, bytes_eq, Option, Some, None, option_map, if◌then◌else◌}
+use Rattle.std.specs.Prelude.{ℕ, Bool, true, false, List, [], ◌∷◌, codes, bytes_eq, Option, Some, None, option_map, if◌then◌else◌}
 use Rattle.memcached_text.specs.declared.fault.Fault.TheVariants.{Format, ExpiryFormat}
 use Rattle.memcached_text.specs.declared.command.Command.TheVariants as commands
-use Rattle.memcached_text.specs.declared.command.Topic.TheVariants.{Server, NoPart}
+use Rattle.memcached_text.specs.declared.command.Topic.{Topic}
+use Rattle.memcached_text.specs.declared.command.Topic.TheVariants.{Server, Settings, Items, Slabs, Sizes, Conns, Reset}
 use Rattle.memcached_text.specs.declared.lifetime.Lifetime.{Lifetime}
 use Rattle.memcached_text.specs.declared.lifetime.Due.TheVariants.{Now}
 use Rattle.memcached_text.specs.declared.line.Line.{Line}
@@ -26,16 +27,24 @@ flush_line (word ∷ []) =
 flush_line (expiry ∷ last ∷ []) = Some (flushed (lifetime_of expiry) (is_noreply last))
 flush_line (_ ∷ _ ∷ _ ∷ _) = None
 
--- the parts of memcached that clients ask for, and that this server does not have
-abbrev pub is_part : List ℕ → Bool
-is_part word =
-    bytes_eq word (codes "items") || bytes_eq word (codes "slabs") || bytes_eq word (codes "settings")
-    || bytes_eq word (codes "sizes") || bytes_eq word (codes "conns")
+-- the topic of this name
+abbrev pub topic_of : List ℕ → Option Topic
+topic_of word =
+    if bytes_eq word (codes "settings") then Some Settings
+    else if bytes_eq word (codes "items") then Some Items
+    else if bytes_eq word (codes "slabs") then Some Slabs
+    else if bytes_eq word (codes "sizes") then Some Sizes
+    else if bytes_eq word (codes "conns") then Some Conns
+    else if bytes_eq word (codes "reset") then Some Reset
+    else None
 
--- nothing, or a part, and whatever else
+abbrev pub line_on : Topic → Line
+line_on topic = Whole (commands.Stats topic)
+
+-- nothing, or a topic, and whatever else
 unfoldable pub stats_line : List (List ℕ) → Option Line
-stats_line [] = Some (Whole (commands.Stats Server))
-stats_line (word ∷ words) = if is_part word then Some (Whole (commands.Stats NoPart)) else None
+stats_line [] = Some (line_on Server)
+stats_line (word ∷ words) = option_map line_on (topic_of word)
 
 -- the line of `verbosity`, by its level if that can be read
 abbrev pub verbosity_by : Option ℕ → Bool → Line

@@ -15,7 +15,7 @@ use Rattle.memcached_text.specs.declared.command.Side.TheVariants.{Front, Back}
 use Rattle.memcached_text.specs.declared.command.Direction.{Direction}
 use Rattle.memcached_text.specs.declared.command.Direction.TheVariants.{Up, Down}
 use Rattle.memcached_text.specs.declared.command.Topic.{Topic}
-use Rattle.memcached_text.specs.declared.command.Topic.TheVariants.{Server, NoPart}
+use Rattle.memcached_text.specs.declared.command.Topic.TheVariants.{Server, Settings, Items, Slabs, Sizes, Conns, Reset}
 use Rattle.memcached_text.specs.declared.next.Next.TheVariants as nexts
 use Rattle.memcached_text.specs.Lifetimes.{IsSaid, IsSaidDue}
 use Rattle.memcached_text.specs.Lines.{Lacks}
@@ -85,7 +85,12 @@ count_word Down = codes "decr"
 
 abbrev pub topic_words : Topic → List (List ℕ)
 topic_words Server = []
-topic_words NoPart = codes "items" ∷ []
+topic_words Settings = codes "settings" ∷ []
+topic_words Items = codes "items" ∷ []
+topic_words Slabs = codes "slabs" ∷ []
+topic_words Sizes = codes "sizes" ∷ []
+topic_words Conns = codes "conns" ∷ []
+topic_words Reset = codes "reset" ∷ []
 
 -- the words of a command's line
 abbrev pub command_words : Command → List (List ℕ)

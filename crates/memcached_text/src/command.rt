@@ -94,12 +94,22 @@ pub enum Direction {
 }
 
 /// Of what a client wants to know what is counted.
-#[derive(Clone, Copy, PartialEq, Eq)]
+#[derive(Clone, Copy)]
 pub enum Topic {
     /// The server.
     Server,
-    /// A part of memcached that this server does not have.
-    NoPart,
+    /// What it was started with.
+    Settings,
+    /// Its items.
+    Items,
+    /// The memory that they lie in.
+    Slabs,
+    /// How large they are.
+    Sizes,
+    /// Its connections.
+    Conns,
+    /// Nothing: counts are to begin anew.
+    Reset,
 }
 
 impl<'a> Command<'a> {

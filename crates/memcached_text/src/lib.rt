@@ -41,6 +41,7 @@ pub use limits::{
 pub use next::{Next, next_command};
 pub use number::number_of;
 pub use reply::{Reply, fault_line, put_last_value, put_number, put_stat, put_value, reply_line};
+pub use server_line::topic_of;
 pub use spelled::spelled_key;
 pub use text::Text;
 pub use waiting::{lacks_feed, waits_for_line};

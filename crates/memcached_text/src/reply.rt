@@ -34,6 +34,8 @@ pub enum Reply {
     Done,
     /// Of a command of no effect.
     Noop,
+    /// Counts begin anew.
+    Reset,
     /// A line was too long.
     LongLine,
 }
@@ -56,6 +58,7 @@ pub fn reply_line(reply: Reply) -> &'static [u8]
         Reply::Version => VERSION_LINE,
         Reply::Done => b"OK\r\n",
         Reply::Noop => b"MN\r\n",
+        Reply::Reset => b"RESET\r\n",
         Reply::LongLine => b"CLIENT_ERROR line too long\r\n",
     }
 }

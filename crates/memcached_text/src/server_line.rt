@@ -3,7 +3,7 @@
 ghost use Rattle.std.specs.Prelude.{◌≡◌};
 ghost use Rattle.memcached_text.specs.Line.{refused, is_noreply, quiet_tail};
 ghost use Rattle.memcached_text.specs.Lifetimes.{lifetime_of};
-ghost use Rattle.memcached_text.specs.ServerLine.{flushed, flush_line, is_part, stats_line, verbosity_line};
+ghost use Rattle.memcached_text.specs.ServerLine.{flushed, flush_line, stats_line, topic_of, verbosity_line};
 
 use crate::lifetime::{due_of, lifetime_of};
 use crate::line::{Line, is_noreply, quiet_tail, refused};
@@ -54,15 +54,25 @@ pub fn flush_line<'a>(mut words: Words<'a>) -> Option<Line<'a>>
     Some(flushed(first, is_noreply(last)))
 }
 
-// Whether memcached has a part of this name that clients ask for, and this server does not.
-fn is_part(word: &[u8]) -> bool
-    ensures { result ≡ is_part word.now }
+/// The topic of this name.
+pub fn topic_of(word: &[u8]) -> Option<Topic>
+    ensures { result ≡ topic_of word.now }
 {
-    word == b"items".as_slice()
-        || word == b"slabs".as_slice()
-        || word == b"settings".as_slice()
-        || word == b"sizes".as_slice()
-        || word == b"conns".as_slice()
+    if word == b"settings".as_slice() {
+        Some(Topic::Settings)
+    } else if word == b"items".as_slice() {
+        Some(Topic::Items)
+    } else if word == b"slabs".as_slice() {
+        Some(Topic::Slabs)
+    } else if word == b"sizes".as_slice() {
+        Some(Topic::Sizes)
+    } else if word == b"conns".as_slice() {
+        Some(Topic::Conns)
+    } else if word == b"reset".as_slice() {
+        Some(Topic::Reset)
+    } else {
+        None
+    }
 }
 
 // The line of `stats`, by the words behind it.
@@ -75,12 +85,8 @@ pub fn stats_line<'a>(mut words: Words<'a>) -> Option<Line<'a>>
             topic: Topic::Server,
         }));
     };
-    if !is_part(word) {
-        return None;
-    }
-    Some(Line::Whole(Command::Stats {
-        topic: Topic::NoPart,
-    }))
+    let topic = topic_of(word)?;
+    Some(Line::Whole(Command::Stats { topic }))
 }
 
 // The line of `verbosity`, by the words behind it.

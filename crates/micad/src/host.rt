@@ -12,17 +12,18 @@ use crate::host_start::begin;
 use daemon::{DaemonStatus, Ending, Keeper, Machine, Process, Speaker, exit_code, run_daemon};
 use host_outside::{StdClock, StdSink, UdpNet};
 use locked_server::Left;
+use memcached_stats::Board;
 use outside::{FreeGate, NoMemory, rehearse};
 use std::env::Args;
 use std::fs::File;
 use std::net::Net as Sockets;
 use std::process::ExitCode;
 use std::rt::{Env, Files};
-use std::sync::Wait;
 use std::sync::atomic::{AtomicBool, Ordering};
+use std::sync::{OnceLock, Wait};
 use std::thread::{Threads, available_parallelism};
 use std::{io, time};
-use tcp_connections::{Refused, TcpListeners};
+use tcp_connections::{DoorTroubles, Refused, TcpListeners};
 
 /// Says on standard error why the program ends, where there is a reason. What can't be said is left out.
 fn say_why<R: AllocGlobal + Eprint + Sockets + Files, K>(
@@ -46,7 +47,7 @@ fn say_why<R: AllocGlobal + Eprint + Sockets + Files, K>(
     };
 }
 
-/// The flags that all of the process have in common.
+/// What all of the process have in common.
 #[derive(Drop)]
 pub struct Flags {
     /// A port has ended, or a partition bears no more writes.
@@ -55,15 +56,21 @@ pub struct Flags {
     pub stopping: AtomicBool,
     /// The server has ended.
     pub over: AtomicBool,
+    /// What its fronts count, once it begins.
+    pub board: OnceLock<Board>,
+    /// What goes wrong at its doors.
+    pub doors: DoorTroubles,
 }
 
 impl Flags {
-    /// Nothing has ended.
+    /// Nothing has begun, and nothing has ended.
     pub fn new() -> Flags {
         Flags {
             ended: AtomicBool::new(false),
             stopping: AtomicBool::new(false),
             over: AtomicBool::new(false),
+            board: OnceLock::new(),
+            doors: DoorTroubles::new(),
         }
     }
 }
@@ -116,12 +123,14 @@ pub fn run_on_host<
         gate: &FreeGate,
         ended: &flags.ended,
         stopping: &flags.stopping,
+        board: &flags.board,
         pid: machine.process,
         processors: machine.processors,
     };
     let mut speaker = Speaker::new(alloc, StdSink::new(io::writer(rt)));
     let mut listeners = TcpListeners::new(rt, alloc, clock, &flags.ended, &flags.stopping);
     listeners.set_doors(asked.doors, asked.idle);
+    listeners.count_troubles(&flags.doors);
     let code = run_daemon(
         &process,
         args,

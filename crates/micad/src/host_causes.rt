@@ -29,8 +29,8 @@ fn tried_file<R: Files>(rt: &R, name: &str) -> io::Result<()> {
     Ok(())
 }
 
-// What an error is, for whoever reads the journal.
-fn cause_of(error: &io::Error) -> &'static str {
+/// What an error is, for whoever reads the journal.
+pub(crate) fn cause_of(error: &io::Error) -> &'static str {
     match error.raw_os_error() {
         // the numbers that say so of a process, and of the system
         Some(24) => return "too many open files: see LimitNOFILE= or ulimit -n",

@@ -1,17 +1,24 @@
-//! The end that a signal asks for.
+//! A look at the process from time to time: for the end that a signal asks for, for what goes wrong meanwhile, and for how much processors worked.
 
+use crate::host::Flags;
 use crate::host_files::HostFiles;
-use daemon::stop_signals;
+use crate::host_journal::Journal;
+use daemon::{stop_signals, work_done};
+use host_outside::StdClock;
+use outside::Clock;
 use std::alloc::Global;
 use std::fs::File;
 use std::rt::Files;
 use std::sync::Wait;
-use std::sync::atomic::{AtomicBool, Ordering};
+use std::sync::atomic::Ordering;
 use std::thread::sleep;
 use std::time::{self, Duration};
 
-/// How long it is from one look to the next.
+/// How long it is from one look to the next at most.
 const LOOK_MILLIS: u64 = 100;
+
+/// So many looks for signals there are for one at the work of processors.
+const LOOKS_AT_WORK: u32 = 10;
 
 /// Whether INT and TERM are blocked, as they must be where items are to be saved at the end. Else it says so.
 pub fn has_stop<R: Eprint + Files<File = File>>(rt: &R, alloc: Global) -> bool {
@@ -40,24 +47,49 @@ pub fn say_unseen<R: Eprint + Files<File = File>>(rt: &R, alloc: Global) {
     }
 }
 
-/// Looks again and again whether INT or TERM waits, and tells by `stopping` that one does; until the server has ended.
-pub fn watch<R: Files<File = File> + Wait + time::Clock>(
-    rt: &R,
-    alloc: Global,
-    stopping: &AtomicBool,
-    ended: &AtomicBool,
-) {
+// Whether a signal that asks for the end may still come and be seen; and tells by the flags that one has come.
+fn looks_on<R: Files>(system: &HostFiles<'_, R>, alloc: Global, flags: &Flags) -> bool {
+    match stop_signals(alloc, system) {
+        Some(signals) if signals.are_blocked => {
+            if signals.one_waits {
+                flags.stopping.store(true, Ordering::Relaxed);
+            }
+            !signals.one_waits
+        }
+        _ => false,
+    }
+}
+
+// Shows how much processors worked, where the system tells it.
+fn look_at_work<R: Files>(system: &HostFiles<'_, R>, alloc: Global, flags: &Flags) {
+    let Some(board) = flags.board.get() else {
+        return;
+    };
+    if let Some((user, system)) = work_done(alloc, system) {
+        board.show_work(user, system);
+    }
+}
+
+/// Looks again and again whether INT or TERM waits, and tells by the flags that one does; and tells what goes wrong meanwhile, and how much processors worked. It ends soon after the server has ended: at
+/// first it looks often, since words that are refused end at once.
+pub fn watch<R: Eprint + Files<File = File> + Wait + time::Clock>(rt: &R, alloc: Global, flags: &Flags) {
     let system = HostFiles::new(rt);
+    let mut clock = StdClock::new(rt);
+    let mut journal = Journal::new(&flags.board, &flags.doors);
+    let mut sees = true;
+    let mut pause = 1u64;
+    let mut looks = 0u32;
     for _ in rt.forever() {
-        let Some(signals) = stop_signals(alloc, &system) else {
-            return;
-        };
-        if signals.are_blocked && signals.one_waits {
-            stopping.store(true, Ordering::Relaxed);
+        sees = sees && looks_on(&system, alloc, flags);
+        journal.tell(rt, alloc, clock.second());
+        if looks == 0 {
+            look_at_work(&system, alloc, flags);
         }
-        if !signals.are_blocked || signals.one_waits || ended.load(Ordering::Relaxed) {
+        looks = looks.wrapping_add(1) % LOOKS_AT_WORK;
+        if flags.over.load(Ordering::Relaxed) {
             return;
         }
-        sleep(rt, Duration::from_millis(LOOK_MILLIS));
+        sleep(rt, Duration::from_millis(pause));
+        pause = pause.saturating_mul(2).min(LOOK_MILLIS);
     }
 }

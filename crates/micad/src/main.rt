@@ -6,6 +6,7 @@ mod host;
 mod host_causes;
 mod host_doors;
 mod host_files;
+mod host_journal;
 mod host_start;
 mod host_stop;
 
@@ -33,7 +34,7 @@ fn main(rt: HostRuntime) -> ExitCode {
     let flags = Flags::new();
     let ((), code) = join(
         &rt,
-        || watch(&rt, alloc, &flags.stopping, &flags.over),
+        || watch(&rt, alloc, &flags),
         || run_on_host(&rt, args, machine, &flags, asked),
     );
     code

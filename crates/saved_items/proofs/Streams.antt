@@ -1,6 +1,6 @@
 -- What a source's bytes give, a block at a time.
 use Rattle.std.proofs.Common.{◌≡◌, ℕ, suc, ◌+◌, ◌-◌, ◌/◌, ◌<◌, ◌≤◌, Bool, true, false, cond, ltb, eqb, List, [], ◌∷◌, ◌++◌, length, take, drop, refl, sym, ap, subst, ◌∙◌, arith, append_assoc}
-use Rattle.std.specs.Prelude.{Option, Some, None, option_map, Result, Ok, Err, IsErrAnd}
+use Rattle.std.specs.Prelude.{Option, Some, None, Result, Ok, Err, IsErrAnd}
 use Rattle.std.specs.Int.{w64, from_le_bytes}
 use Rattle.std.specs.Io.KnownBytes.{Consumes, IsAtEnd}
 use Rattle.std.proofs.lemmas.Bool.{le-ltb, lt-ltb, ne_eqb}
@@ -10,10 +10,7 @@ use Rattle.saved_items.specs.declared.fault.SavedFault.{SavedFault}
 use Rattle.saved_items.specs.declared.fault.SavedFault.TheVariants as faults
 use Rattle.saved_items.specs.Blocks.{content_sum}
 use Rattle.saved_items.specs.Reading.{Stream, Stop, AtEnd, Within, OtherSum, with_front, told_sum, sum_after, blocks_at, stream_at, stop_fault, bytes_at}
-use Rattle.saved_items.specs.declared.blocks.TheConstants.{FIRST_SUM}
-use Rattle.saved_items.specs.declared.reader.SavedReader.{SavedReader}
 use Rattle.saved_items.specs.Moves.{stream_in, Yields, Stops, Reads}
-use Rattle.saved_items.specs.Reader.{IsAtFirst, stream_of}
 
 abbrev pub stopped : Stop → Stream
 stopped stop = record { content = []; stop = stop }
@@ -198,13 +195,6 @@ yields_none (Some stream) = refl
 
 pub nothing_left : (n : ℕ) (bytes : List ℕ) → drop n (take n bytes) ≡ []
 nothing_left n bytes = drop_all n (take n bytes) (omega (arith, length-take n bytes))
-
--- what stands before it is the whole file
-pub stream_first : (reader : SavedReader) (left : Option (List ℕ)) → IsAtFirst reader → stream_of left reader ≡ option_map (stream_at FIRST_SUM) left
-stream_first reader None first = refl
-stream_first reader (Some file) first =
-    ap (λ (r : List ℕ). let s : Option Stream = Some (with_front r (stream_at reader.sum file)) in s) first.rest
-    ∙ ap (λ (n : ℕ). let s : Option Stream = Some (stream_at n file) in s) first.sum
 
 -- all of a block was given
 pub none_left : (at : ℕ) (bytes : List ℕ) → at ≡ 65528 → drop at (take 65528 bytes) ≡ []

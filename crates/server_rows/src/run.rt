@@ -9,8 +9,8 @@ use memory_outside::{MemClock, MemNet, MemSink};
 use outside::{Bytes, NoMemory};
 use row_parts::{Entry, Row, RowGate, at_least_one, has_sent, is_one_of, net_of};
 use std::alloc::Global;
-use std::sync::Wait;
 use std::sync::atomic::AtomicBool;
+use std::sync::{OnceLock, Wait};
 use std::thread::Threads;
 
 /// How a run ended, what it wrote, why it ended, for how many connections there was no memory, and the net, the gate and what was heard that it leaves.
@@ -147,6 +147,7 @@ fn run(
         gate: &gate,
         ended: &AtomicBool::new(false),
         stopping: &AtomicBool::new(row.find("stops").is_some()),
+        board: &OnceLock::new(),
         pid: 1,
         processors: 4,
     };

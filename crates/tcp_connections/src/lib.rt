@@ -2,6 +2,7 @@
 #![tactic(auto)]
 
 mod door;
+mod door_troubles;
 mod hall;
 mod patience;
 mod slot;
@@ -11,5 +12,6 @@ mod tcp_listeners;
 mod tcp_port;
 
 pub use door::{Door, Refused};
+pub use door_troubles::DoorTroubles;
 pub use tcp_connections::TcpConnections;
 pub use tcp_listeners::TcpListeners;

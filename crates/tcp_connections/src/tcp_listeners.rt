@@ -6,6 +6,7 @@ ghost use Rattle.outside.specs.Faults.{Rose, faults_after};
 
 use crate::TcpConnections;
 use crate::door::{Door, Listener, Refused, listen_at};
+use crate::door_troubles::DoorTroubles;
 use crate::hall::{Dealer, Entrance, Hall, MOST_DEALT, Seat};
 use crate::tcp_port::{Limits, TcpPort};
 use connections::{Listeners, Place};
@@ -32,6 +33,8 @@ pub struct TcpListeners<'a, R, K> {
     refused: Option<Refused>,
     /// For how many seconds a connection may be silent, where that is not 0.
     idle: u32,
+    /// Where it is counted what goes wrong at the doors, where somebody looks.
+    troubles: Option<&'a DoorTroubles>,
     most: u32,
     heard: Vec<u32>,
     given: u32,
@@ -62,6 +65,7 @@ impl<'a, R: Files + Sockets + Wait + Sync, K: Clock + Copy + Drop + Send> TcpLis
             doors: Vec::new(alloc),
             refused: None,
             idle: 0,
+            troubles: None,
             most: 0,
             heard: Vec::new(alloc),
             given: 0,
@@ -81,6 +85,16 @@ impl<'a, R: Files + Sockets + Wait + Sync, K: Clock + Copy + Drop + Send> TcpLis
     {
         self.doors = doors;
         self.idle = idle;
+    }
+
+    /// What goes wrong at the doors that are listened at next is counted here.
+    pub fn count_troubles(&mut self, troubles: &'a DoorTroubles)
+        ensures places { ⟦<TcpListeners<'a, R, K> as Listeners>⟧.places self.new ≡ ⟦<TcpListeners<'a, R, K> as Listeners>⟧.places self.old }
+        ensures heard { ⟦<TcpListeners<'a, R, K> as Listeners>⟧.heard self.new ≡ ⟦<TcpListeners<'a, R, K> as Listeners>⟧.heard self.old }
+        ensures given { ⟦<TcpListeners<'a, R, K> as Listeners>⟧.given self.new ≡ ⟦<TcpListeners<'a, R, K> as Listeners>⟧.given self.old }
+        ensures faults { ⟦<TcpListeners<'a, R, K> as Listeners>⟧.faults self.new ≡ ⟦<TcpListeners<'a, R, K> as Listeners>⟧.faults self.old }
+    {
+        self.troubles = Some(troubles);
     }
 
     /// The door that could not be had, where there is one.
@@ -258,6 +272,7 @@ impl<'a, R: Files + Sockets + Wait + Sync, K: Clock + Copy + Drop + Send> Listen
             most: self.most as usize,
             idle: u64::from(self.idle),
             has_failed: self.has_failed,
+            troubles: self.troubles,
         };
         let opened = open_shares(
             self.rt,

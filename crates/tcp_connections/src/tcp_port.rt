@@ -2,6 +2,7 @@
 ghost use Rattle.std.specs.Prelude.{◌<◌, ◌≤◌, length, IfOk};
 ghost use Rattle.connections.specs.Calls.{FitsRoom};
 
+use crate::door_troubles::DoorTroubles;
 use crate::hall::{Dealt, Entrance, Hall, MOST_DEALT};
 use crate::patience::Patience;
 use crate::slot::{Slot, drop_unread, new_slot, read_from, turn_away, write_to};
@@ -48,6 +49,8 @@ pub(crate) struct TcpPort<'a> {
     second: u64,
     /// Whether a port has failed: all fail together.
     has_failed: &'a AtomicBool,
+    /// Where it is counted what goes wrong at the doors, where somebody looks.
+    troubles: Option<&'a DoorTroubles>,
     poll: Poll,
     events: Events,
     entrance: Entrance,
@@ -117,6 +120,7 @@ pub(crate) struct Limits<'a> {
     pub(crate) most: usize,
     pub(crate) idle: u64,
     pub(crate) has_failed: &'a AtomicBool,
+    pub(crate) troubles: Option<&'a DoorTroubles>,
 }
 
 impl<'a> TcpPort<'a> {
@@ -139,6 +143,7 @@ impl<'a> TcpPort<'a> {
             idle: limits.idle,
             second: 0,
             has_failed: limits.has_failed,
+            troubles: limits.troubles,
             poll,
             events,
             entrance,
@@ -186,7 +191,12 @@ impl<'a> TcpPort<'a> {
                 Err(error) => match error.kind() {
                     ErrorKind::WouldBlock => self.accepting = Accepting::Idle,
                     ErrorKind::Interrupted | ErrorKind::ConnectionAborted => {}
-                    _ => self.accepting = Accepting::Refused,
+                    _ => {
+                        self.accepting = Accepting::Refused;
+                        if let Some(troubles) = self.troubles {
+                            troubles.count_refusal(&error);
+                        }
+                    }
                 },
             },
         }
@@ -215,6 +225,9 @@ impl<'a> TcpPort<'a> {
             Dealt::Away => None,
             Dealt::TooMany(stream) => {
                 turn_away(stream);
+                if let Some(troubles) = self.troubles {
+                    troubles.count_turned_away();
+                }
                 Some(Event::TurnedAway)
             }
         }

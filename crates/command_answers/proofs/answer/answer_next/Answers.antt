@@ -59,7 +59,7 @@ returns-then-is_stats-clause-answered g c =
       if_ok _ (Replies options c.args.numbering.base next c.args.done c.args.limits [] before after) c.answer_stats.result
           (λ progress all. subst (Replies options c.args.numbering.base next c.args.done c.args.limits [] before after) (sym all.0)
           (plain_replies options F.is_alone c.args.numbering.base c.args.second next c.args.done c.requires.open old old is.keyed is.none all.1.0 c.args.limits before after
-          (all.1.1 ∙ (λ i. before ++ stats_text (c.style_of-style.ensures i) (c.requires.partitions i) all.1.0) ∙ ap (λ text. before ++ text) (sym (is.due options.partitions all.1.0)))))
+          (all.1.1 ∙ (λ i. before ++ stats_text (c.style_of-style.ensures i) (c.requires.partitions i) (c.topic_of.ensures i) all.1.0) ∙ ap (λ text. before ++ text) (sym (is.due options.partitions all.1.0)))))
           c.answer_stats.ensures.told,
       omega arith,
       c.answer_stats.ensures.tally ∙ c.count.ensures ∙ ap (λ k. counted k c.args.buffers.now.tally) c.counter_by.ensures

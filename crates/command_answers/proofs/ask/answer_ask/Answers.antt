@@ -8,9 +8,9 @@ use Rattle.memcached_decisions.specs.Numbered.{Order, becoming_by, says_by}
 use Rattle.fronts.specs.Changing.{ComesTo}
 use Rattle.fronts.specs.Session.{ChangesOnly}
 use Rattle.command_answers.specs.AskAnswers.{order_of, said_of}
-use Rattle.memcached_stats.specs.Counted.{counter_of}
-use Rattle.memcached_stats.specs.Tallies.{counted}
-use Rattle.command_answers.specs.Counting.{noted_if}
+use Rattle.memcached_stats.specs.Counted.{counter_beside, counter_of, counter_of_stored}
+use Rattle.memcached_stats.specs.Tallies.{Numbers, counted}
+use Rattle.command_answers.specs.Counting.{beside_of, noted_if}
 use Rattle.memcached_requests.specs.Replies.{said_text}
 use Rattle.command_answers.proofs.Looking.{IsAnsweredBy, answered_by}
 use Rattle.command_answers.proofs.ask.answer_ask.Goals as goal
@@ -37,15 +37,20 @@ returns-clause-answered g c =
     answered_by options F.is_alone c.args.base second asked old new changed buffer comes others in
     let says : c.says-says.result ≡ said_of c.args.base asked by.answered =
     c.says-says.ensures.said ∙ ap (λ (o : Order). says_by o changed.when (option_copied c.value_found-stored.result) changed.outcome) c.new-order.ensures
-    ∙ ap (λ v. says_by (order_of c.args.base asked) changed.when v changed.outcome) c.value_found-stored.ensures ∙ by.said in (
+    ∙ ap (λ v. says_by (order_of c.args.base asked) changed.when v changed.outcome) c.value_found-stored.ensures ∙ by.said in
+    let first : Numbers = counted (counter_of asked.ask (said_of c.args.base asked by.answered)) c.args.buffers.now.tally in
+    let asks : c.count.new.self ≡ first = c.count.ensures ∙ ap (λ k. counted k c.args.buffers.now.tally) (c.counter_of.ensures ∙ ap (counter_of asked.ask) says) in
+    let beside : c.counter_beside.result ≡ beside_of c.args.base asked by.answered =
+    c.counter_beside.ensures ∙ (λ i. counter_beside (says i) (counter_of_stored (c.moment_at-at.ensures i) (c.value_found-stored.ensures i))) ∙ by.beside in
+    let tally : c.count-2.new.self ≡ counted (beside_of c.args.base asked by.answered) first = c.count-2.ensures ∙ (λ i. counted (beside i) (asks i)) in (
       by.answered,
       by.at,
       on_ok_weaker c.put_said.result (λ text.
           text ∙ (λ i. c.args.out.now.items ++ said_text c.args.style.now c.args.is_last (c.bytes-key.ensures i) (says i))) c.put_said.ensures.ok,
       (let left = c.change-changed.ensures.left in omega (arith, left, by.count)),
       c.note_write.ensures ∙ (λ i. noted_if c.args.partitions (c.bytes-key.ensures i) changed.when changed.outcome changed.stamp
-          ((c.count.ensures ∙ ap (λ k. counted k c.args.buffers.now.tally) (c.counter_of.ensures ∙ ap (counter_of asked.ask) says)) i))
-          ∙ by.noted c.args.partitions (counted (counter_of asked.ask (said_of c.args.base asked by.answered)) c.args.buffers.now.tally),
+          (tally i))
+          ∙ by.noted c.args.partitions (counted (beside_of c.args.base asked by.answered) first),
       c.was_refused.ensures ∙ sym by.refused,
     )
 

@@ -16,14 +16,14 @@ is_placed fronts place false is some = omega arith
 
 pub serve_aloud-requires-clause-places : goal.serve_aloud-requires-clause-places
 serve_aloud-requires-clause-places g c lifetimes outlive some =
-    let streams = c.args.streams.now in
+    let streams = c.args.read.now.streams in
     subst (λ (all : List Place). 0 < length all) (sym (c.set_places.ensures.places ∙ c.in-Ok-places_of.ensures))
     (is_placed streams.ports.fronts (place_at streams.address streams.ports.port) (streams.ports.fronts == 0) refl some)
 
 pub returns : goal.returns
 returns g c =
     let set = c.set_places.ensures in
-    inl (serves_placed c.args.streams.now
+    inl (serves_placed c.args.read.now.streams
     (daemon_outside (sink_facts g.K.Sink c.args.speaker.now.sink) (ports_at g.N.Net g.L.Listeners c.args.net.now c.args.listeners.now) c.args.left.now.tables c.args.left.now.lacked)
     (λ i. daemon_outside (sink_facts g.K.Sink c.args.speaker.now.sink) (record {
       net = net_facts g.N.Net c.args.net.now;

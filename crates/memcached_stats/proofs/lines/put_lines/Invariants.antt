@@ -1,11 +1,11 @@
-use Rattle.std.proofs.Common.{◌≡◌, ◌≤◌, ◌+◌, ◌++◌, length, take, flat_map, map}
+use Rattle.std.proofs.Common.{◌≡◌, ◌≤◌, ◌+◌, ◌++◌, length, take, map}
 use Rattle.std.specs.Prelude.{sum_by}
 use Rattle.memcached_stats.specs.Lines.{most_len, stat_in}
-use Rattle.memcached_stats.specs.Stats.{line_of}
+use Rattle.memcached_stats.specs.Stats.{lines_of}
 use Rattle.memcached_stats.proofs.lines.put_lines.Given as goal
 
 abbrev pub invariant-loop-line : goal.invariant-loop-line
 invariant-loop-line l = record {
-  text : l.out.items ≡ l.initial.out.items ++ flat_map (line_of l.style) (map stat_in (take l.line-index l.lines));
+  text : l.out.items ≡ l.initial.out.items ++ lines_of l.style (map stat_in (take l.line-index l.lines));
   short : length l.out.items ≤ length l.initial.out.items + sum_by most_len (map stat_in (take l.line-index l.lines));
 }

@@ -1,6 +1,6 @@
-use Rattle.std.proofs.Common.{◌≡◌, ◌+◌, ◌++◌, suc, flat_map, sym, ap, ◌∙◌, append_assoc, arith}
+use Rattle.std.proofs.Common.{◌≡◌, ◌+◌, ◌++◌, suc, sym, ap, ◌∙◌, append_assoc, arith}
 use Rattle.memcached_stats.specs.Figures.{wear_in}
-use Rattle.memcached_stats.specs.Stats.{line_of, wear_stats, wear_text}
+use Rattle.memcached_stats.specs.Stats.{lines_of, wear_stats, wear_text}
 use Rattle.memcached_stats.proofs.WearLaws.{one_more}
 use Rattle.memcached_stats.proofs.lines.put_wears.Goals as goal
 
@@ -14,10 +14,10 @@ loop-partition-preserved c =
     let next : suc p ≡ p + 1 = omega arith in
     let so_far = wear_text style 0 p wears in
     record {
-      text = c.in_ok-put_wear.ensures.ok ∙ ap (λ text. text ++ flat_map (line_of style) (wear_stats p c.wear_at.result)) c.loop-partition.invariant.text
-          ∙ append_assoc before so_far (flat_map (line_of style) (wear_stats p c.wear_at.result))
+      text = c.in_ok-put_wear.ensures.ok ∙ ap (λ text. text ++ lines_of style (wear_stats p c.wear_at.result)) c.loop-partition.invariant.text
+          ∙ append_assoc before so_far (lines_of style (wear_stats p c.wear_at.result))
           ∙ ap (λ text. before ++ text)
-          (ap (λ wear. so_far ++ flat_map (line_of style) (wear_stats p wear)) c.wear_at.ensures ∙ ap (λ n. so_far ++ flat_map (line_of style) (wear_stats n (wears n))) here
+          (ap (λ wear. so_far ++ lines_of style (wear_stats p wear)) c.wear_at.ensures ∙ ap (λ n. so_far ++ lines_of style (wear_stats n (wears n))) here
           ∙ sym (one_more style 0 p wears) ∙ ap (λ n. wear_text style 0 n wears) next);
       short = omega (arith, c.in_ok-put_wear.ensures.short, c.loop-partition.invariant.short);
     }
