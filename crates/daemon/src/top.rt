@@ -281,14 +281,20 @@ pub fn daemon<
         return DaemonStatus::NoMemory;
     }
     if let Some(name) = read.save {
-        let begun =
-            match begin_kept(process, start, files, name, &read.options, &mut speaker.sink) {
-                Ok(begun) => begun,
-                Err(status) => {
-                    note_saved(process.alloc, name, status, speaker);
-                    return status;
-                }
-            };
+        let begun = match begin_kept(
+            process,
+            start,
+            files,
+            name,
+            &read.options,
+            &mut speaker.sink,
+        ) {
+            Ok(begun) => begun,
+            Err(status) => {
+                note_saved(process.alloc, name, status, speaker);
+                return status;
+            }
+        };
         left.keeper.saving = Some(begun.saving);
         return stay_up(
             process,

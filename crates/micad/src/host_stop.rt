@@ -72,7 +72,11 @@ fn look_at_work<R: Files>(system: &HostFiles<'_, R>, alloc: Global, flags: &Flag
 
 /// Looks again and again whether INT or TERM waits, and tells by the flags that one does; and tells what goes wrong meanwhile, and how much processors worked. It ends soon after the server has ended: at
 /// first it looks often, since words that are refused end at once.
-pub fn watch<R: Eprint + Files<File = File> + Wait + time::Clock>(rt: &R, alloc: Global, flags: &Flags) {
+pub fn watch<R: Eprint + Files<File = File> + Wait + time::Clock>(
+    rt: &R,
+    alloc: Global,
+    flags: &Flags,
+) {
     let system = HostFiles::new(rt);
     let mut clock = StdClock::new(rt);
     let mut journal = Journal::new(&flags.board, &flags.doors);
