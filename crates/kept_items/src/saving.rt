@@ -1,5 +1,5 @@
 //! What is saved of a partition.
-ghost use Rattle.std.specs.Prelude.{◌≡◌, ◌≤◌, ⊥, OnOk, IfOk, IsErrOf, IsTrue};
+ghost use Rattle.std.specs.Prelude.{◌≡◌, ◌≤◌, OnOk, IfOk, IsErrOf, IsTrue};
 ghost use Rattle.outside.specs.Faults.{Rose};
 ghost use Rattle.saved_items.specs.Items.{pair_of};
 ghost use Rattle.kept_items.specs.Parts.{entries_of};

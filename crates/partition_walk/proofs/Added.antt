@@ -12,6 +12,8 @@ use Rattle.std.proofs.lemmas.Map.Keys.{IsStrictlyIncreasing-dedup}
 use Rattle.mica_words.specs.declared.entry.TheConstants.{SLOTS}
 use Rattle.mica_words.specs.Entry.{entry_offset}
 use Rattle.partition_words.specs.declared.state.OwnerState.{OwnerState}
+use Rattle.partition_words.specs.declared.shape.Shape.{Shape}
+use Rattle.partition_words.specs.Kept.{Kept}
 use Rattle.partition_words.specs.Shape.{IsMain, IsBucket, IsSpare}
 use Rattle.partition_words.specs.OwnerState.{stamp_in, entry_in, link_in}
 use Rattle.partition_words.specs.Chain.{IsAmong}
@@ -36,7 +38,7 @@ module _ (P Q : ℕ → Type 0) (xs ys : List ℕ) (adds : Adds P xs ys) where
     ];
     no_other = λ p i. elim (Contains-push_cases ys x p i) [
       | inl old ↦ elim (adds.no_other p old) [ inl first ↦ inl first | inr new ↦ inr (to p new) ]
-      | inr is ↦ inr (subst Q (sym is) has)
+      | inr is ↦ inr (subst Q is has)
     ];
   }
 
@@ -52,6 +54,19 @@ adds_both P Q R xs ys zs one two from by_one by_two = record {
 
 adds_nothing : (P : ℕ → Type 0) (xs : List ℕ) → ((p : ℕ) → ¬ (P p)) → Adds P xs xs
 adds_nothing P xs none = record { kept = λ p i. i; added = λ p h. absurd (none p h); no_other = λ p i. inl i }
+
+-- what is live by the shape and the stamp at hand
+
+module _ (o : OwnerState) (shape : Shape) (stamp entry : ℕ) (same : shape ≡ o.shape) (now : stamp ≡ stamp_in o) where
+  pub live_here : IsLive shape stamp entry → IsLive o.shape (stamp_in o) entry
+  live_here live = subst (λ (n : ℕ). IsLive o.shape n entry) now (subst (λ (z : Shape). IsLive z stamp entry) same live)
+
+  pub live_there : IsLive o.shape (stamp_in o) entry → IsLive shape stamp entry
+  live_there live = subst (λ (z : Shape). IsLive z stamp entry) (sym same) (subst (λ (n : ℕ). IsLive o.shape n entry) (sym now) live)
+
+-- a link that is not 0 names a spare
+pub spare_behind : (o : OwnerState) → Kept o → (at link : ℕ) → IsBucket o.shape at → link ≡ link_in o at → link ≢ 0 → IsSpare o.shape (link_in o at)
+spare_behind o s at link bucket is some = elim (s.chains.links at bucket) [ inl none ↦ absurd (some (is ∙ none)) | inr spare ↦ spare ]
 
 -- the slots of a bucket
 

@@ -1,6 +1,6 @@
 -- The bytes in the words of an item.
 use Rattle.std.proofs.Common.{◌≡◌, ℕ, suc, ◌+◌, ◌*◌, ◌<◌, ◌≤◌, List, ◌++◌, length, take, flat_map, get_or, slice_index, refl, sym, ap, ◌∙◌, subst, arith}
-use Rattle.std.proofs.lemmas.Grind.{common_steps}
+use Rattle.std.proofs.lemmas.List.{length-take-le}
 use Rattle.std.specs.Int.{w64, to_le_bytes}
 use Rattle.mica_words.specs.Header.{header_of, header_key_len, header_value_len}
 use Rattle.mica_words.specs.Item.{item_size, words_for}
@@ -16,7 +16,7 @@ use Rattle.partition_words.proofs.Keys.{header_there}
 use Rattle.partition_words.proofs.Machine.{Fits, has_fits}
 use Rattle.mica_words.specs.Entry.{entry_offset}
 use Rattle.circular_log.specs.LogItem.{words_from}
-use Rattle.circular_log.proofs.LoadedValue.{bytes_from, bytes_more, length-words_from, word_from}
+use Rattle.circular_log.proofs.LoadedValue.{bytes_from, length-bytes_from, length-words_from, word_from}
 use Rattle.saved_items.specs.Items.{Pair}
 use Rattle.partition_walk.specs.PairAt.{bytes_in, key_at, value_at, pair_at, is_item}
 
@@ -24,6 +24,11 @@ use Rattle.partition_walk.specs.PairAt.{bytes_in, key_at, value_at, pair_at, is_
 pub bytes_read : (o : OwnerState) (p n len : ℕ) (bytes : List ℕ) → n ≡ words_for len → bytes ≡ bytes_from o p n → take len bytes ≡ bytes_in o p len
 unfolding unpacked
 bytes_read o p n len bytes count is = ap (take len) (is ∙ ap (bytes_from o p) count)
+
+-- so many
+pub length-bytes_in : (o : OwnerState) (p len : ℕ) → length (bytes_in o p len) ≡ len
+unfolding unpacked
+length-bytes_in o p len = length-take-le len (bytes_from o p (words_for len)) (omega (arith, length-bytes_from o p (words_for len)))
 
 -- words that are those of packed bytes
 bytes_there : (o : OwnerState) (p : ℕ) (bytes : List ℕ) → AreBytes bytes → ((i : ℕ) → i < words_for (length bytes) → item_in o (p + i) ≡ slice_index (packed bytes) i) → bytes_in o p (length bytes) ≡ bytes

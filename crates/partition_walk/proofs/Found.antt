@@ -5,13 +5,14 @@ use Rattle.std.proofs.lemmas.Option.{same_Some}
 use Rattle.std.proofs.lemmas.Bool.{lt-ltb, le-leb}
 use Rattle.std.specs.FinMap.{get}
 use Rattle.mica_words.specs.Entry.{entry_offset}
+use Rattle.mica_words.specs.Header.{header_key_len, header_value_len}
 use Rattle.partition_model.specs.Cache.{Record, record_of}
 use Rattle.partition_model.specs.Store.{Cell}
 use Rattle.partition_model.specs.History.{State, cache_state, store_state, value_in, answer_of}
 use Rattle.partition_words.specs.declared.state.OwnerState.{OwnerState}
 use Rattle.partition_words.specs.declared.state.Phase.TheVariants.{Idle}
 use Rattle.partition_words.specs.Shape.{IsMain}
-use Rattle.partition_words.specs.OwnerState.{bucket_in, entry_in, options_in, state_in}
+use Rattle.partition_words.specs.OwnerState.{bucket_in, entry_in, item_in, options_in, state_in}
 use Rattle.partition_words.specs.LiveEntry.{HasLiveEntry}
 use Rattle.partition_words.specs.Kept.{Kept}
 use Rattle.partition_words.specs.StandsFor.{Has, Spells, StandsFor}
@@ -80,8 +81,8 @@ module _ (o : OwnerState) (s : Kept o) (idle : o.phase ≡ Idle) where
         let keys = key_len o s f.bucket f.entry f.key f.cell f.spells in
         let values = value_len o s f.bucket f.entry f.key f.cell f.spells in
         let low = lt-ltb (entry_offset f.entry) (2 ^ 48) (omega arith) in
-        let some = lt-ltb 0 _ (omega (arith, keys, fits.0)) in
-        let short = le-leb _ 1048592 (omega (arith, values, fits.2)) in
+        let some = lt-ltb 0 (header_key_len (item_in o (entry_offset f.entry))) (omega (arith, keys, fits.0)) in
+        let short = le-leb (header_value_len (item_in o (entry_offset f.entry))) 1048592 (omega (arith, values, fits.2)) in
         subst (λ (q : ℕ). is_item o q ≡ true) f.at (rw (low, some, short) refl)
 
   -- what the words have at the offset of an item is what the machine answers

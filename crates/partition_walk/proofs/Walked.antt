@@ -31,13 +31,14 @@ module _ (o : OwnerState) (key : List ℕ) where
   stored_some : (value : List ℕ) (ps : List ℕ) → ((p : ℕ) → Contains ps p → key_at o p ≡ key → value_at o p ≡ value) → (p : ℕ) → Contains ps p → key_at o p ≡ key
       → stored_under key (map (pair_at o) ps) ≡ Some value
   stored_some value [] values p i is = absurd (in_none p i)
-  stored_some value (q ∷ ps) values p i is = go (bytes_eq (key_at o q) key) refl
+  stored_some value (q ∷ ps) values p i is =
+      go (bytes_eq (key_at o q) key) refl (λ more. stored_some value ps (λ r j. values r (in_tail q r ps j)) p more is)
     where
-      go : (b : Bool) → bytes_eq (key_at o q) key ≡ b → stored_under key (map (pair_at o) (q ∷ ps)) ≡ Some value
-      go true b = rw b (ap (λ (v : List ℕ). Some v) (values q (in_head q ps) ((bytes_eq-Decides (key_at o q) key).0 b)))
-      go false b = rw b (elim (in_cons q p ps i) [
+      go : (b : Bool) → bytes_eq (key_at o q) key ≡ b → (Contains ps p → stored_under key (map (pair_at o) ps) ≡ Some value) → stored_under key (map (pair_at o) (q ∷ ps)) ≡ Some value
+      go true b rest = rw b (ap (λ (v : List ℕ). Some v) (values q (in_head q ps) ((bytes_eq-Decides (key_at o q) key).0 b)))
+      go false b rest = rw b (elim (in_cons q p ps i) [
         | inl same ↦ absurd (let e : true ≡ false = sym ((bytes_eq-Decides (key_at o q) key).1 (ap (key_at o) same ∙ is)) ∙ b in cc)
-        | inr more ↦ stored_some value ps (λ r j. values r (in_tail q r ps j)) p more is
+        | inr more ↦ rest more
       ])
 
 module _ (o : OwnerState) (s : Kept o) (idle : o.phase ≡ Idle) (offsets : List ℕ) (l : AreListed o offsets) where

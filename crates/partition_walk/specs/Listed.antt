@@ -26,7 +26,7 @@ HasItemInChain o b p = (c : ℕ) × InChain o b c × HasItem o c p
 
 -- A live entry of the partition names an item at the offset.
 abbrev pub IsItemAt : OwnerState → ℕ → Type 0
-IsItemAt o p = (b c slot entry : ℕ) × IsMain o.shape b × HasLiveEntry o b c slot entry × (entry_offset entry ≡ p)
+IsItemAt o p = (b : ℕ) × (c : ℕ) × (slot : ℕ) × (entry : ℕ) × IsMain o.shape b × HasLiveEntry o b c slot entry × (entry_offset entry ≡ p)
 
 -- the numbers that P says were added, and no other
 pub record Adds (P : ℕ → Type 0) (old new : List ℕ) : Type 0 where

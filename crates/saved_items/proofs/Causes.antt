@@ -35,3 +35,8 @@ file_cause before after P fault is = grind (arith, common_steps)
 pub of_file : {X : Type 0} (before after : ℕ) (P : Type 0) (result : Result X SavedFault) → IfErr result (λ f. is_of_outside f ≡ false) → IfErr result (HasCause before after P)
 of_file before after P (Ok x) is = tt
 of_file before after P (Err e) is = file_cause before after P e is
+
+-- who takes entries refused one
+pub refused_cause : {X : Type 0} (before after : ℕ) (P : Type 0) (result : Result X SavedFault) → IsErrAnd result (λ e. e ≡ faults.Refused) → P → IfErr result (HasCause before after P)
+refused_cause before after P (Ok x) is has = absurd is
+refused_cause before after P (Err e) is has = subst (HasCause before after P) (sym is) has

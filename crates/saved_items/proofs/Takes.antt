@@ -50,13 +50,12 @@ Leads n close s (entry ∷ entries) n' close' s' = (0 < n) × (mid : Option Stre
 
 leads_more : (n close : ℕ) (s : Option Stream) (entries : List Entry) (n' close' : ℕ) (s' s'' : Option Stream) (entry : Entry)
     → Leads n close s entries n' close' s' → 0 < n' → IsRead close' s' s'' entry → Leads n close s (entries ++ entry ∷ []) (left_after n' entry) (close_after close' entry) s''
-leads_more n close s [] n' close' s' s'' entry leads some read =
-    (
-      subst (λ (k : ℕ). 0 < k) leads.0 some,
-      s'',
-      subst (λ (z : Option Stream). IsRead close z s'' entry) leads.2 (subst (λ (k : ℕ). IsRead k s' s'' entry) leads.1 read),
-      (ap (λ (k : ℕ). left_after k entry) leads.0, ap (λ (k : ℕ). close_after k entry) leads.1, refl),
-    )
+leads_more n close s [] n' close' s' s'' entry leads some read = (
+  subst (λ (k : ℕ). 0 < k) leads.0 some,
+  s'',
+  subst (λ (z : Option Stream). IsRead close z s'' entry) leads.2 (subst (λ (k : ℕ). IsRead k s' s'' entry) leads.1 read),
+  (ap (λ (k : ℕ). left_after k entry) leads.0, ap (λ (k : ℕ). close_after k entry) leads.1, refl),
+)
 leads_more n close s (first ∷ entries) n' close' s' s'' entry leads some read =
     (leads.0, leads.1, leads.2, leads_more (left_after n first) (close_after close first) leads.1 entries n' close' s' s'' entry leads.3 some read)
 
@@ -67,12 +66,14 @@ entries_behind : (n close : ℕ) (s : Option Stream) (entries : List Entry) (n' 
 entries_behind n close None entries n' close' s' leads more end are = tt
 entries_behind n close (Some s) [] n' close' s' leads more end are =
     subst (λ (z : Option Stream). AreEntries n close z more end) leads.2 (subst (λ (k : ℕ). AreEntries n k s' more end) leads.1 (subst (λ (k : ℕ). AreEntries k close' s' more end) leads.0 are))
-entries_behind n close (Some s) (first ∷ entries) n' close' s' leads more end are = by_rest leads.1 leads.2 leads.3
+entries_behind n close (Some s) (first ∷ entries) n' close' s' leads more end are =
+    by_rest leads.1 leads.2 leads.3 (λ mid later. entries_behind (left_after n first) (close_after close first) (Some mid) entries n' close' s' later more end are)
   where
     by_rest : (mid : Option Stream) → IsRead close (Some s) mid first → Leads (left_after n first) (close_after close first) mid entries n' close' s'
+        → ((rest : Stream) → Leads (left_after n first) (close_after close first) (Some rest) entries n' close' s' → AreEntries (left_after n first) (close_after close first) (Some rest) (entries ++ more) end)
         → AreEntries n close (Some s) (first ∷ entries ++ more) end
-    by_rest None read later = absurd read
-    by_rest (Some mid) read later = (leads.0, mid, read, entries_behind (left_after n first) (close_after close first) (Some mid) entries n' close' s' later more end are)
+    by_rest None read later rest = absurd read
+    by_rest (Some mid) read later rest = (leads.0, mid, read, rest mid later)
 
 next_behind : (n close : ℕ) (s : Option Stream) (entries : List Entry) (n' close' : ℕ) (s' s'' : Option Stream) (entry : Entry) → Leads n close s entries n' close' s'
     → 0 < n' → IsRead close' s' s'' entry → IsNext n close s entries entry
@@ -83,11 +84,14 @@ next_behind n close (Some s) [] n' close' s' s'' entry leads some read =
     by_rest : (now : Option Stream) → IsRead close (Some s) now entry → IsNext n close (Some s) [] entry
     by_rest None read = absurd read
     by_rest (Some now) read = (subst (λ (k : ℕ). 0 < k) leads.0 some, now, read)
-next_behind n close (Some s) (first ∷ entries) n' close' s' s'' entry leads some read = by_rest leads.1 leads.2 leads.3
+next_behind n close (Some s) (first ∷ entries) n' close' s' s'' entry leads some read =
+    by_rest leads.1 leads.2 leads.3 (λ mid later. next_behind (left_after n first) (close_after close first) (Some mid) entries n' close' s' s'' entry later some read)
   where
-    by_rest : (mid : Option Stream) → IsRead close (Some s) mid first → Leads (left_after n first) (close_after close first) mid entries n' close' s' → IsNext n close (Some s) (first ∷ entries) entry
-    by_rest None read later = absurd read
-    by_rest (Some mid) read later = (leads.0, mid, read, next_behind (left_after n first) (close_after close first) (Some mid) entries n' close' s' s'' entry later some read)
+    by_rest : (mid : Option Stream) → IsRead close (Some s) mid first → Leads (left_after n first) (close_after close first) mid entries n' close' s'
+        → ((rest : Stream) → Leads (left_after n first) (close_after close first) (Some rest) entries n' close' s' → IsNext (left_after n first) (close_after close first) (Some rest) entries entry)
+        → IsNext n close (Some s) (first ∷ entries) entry
+    by_rest None read later rest = absurd read
+    by_rest (Some mid) read later rest = (leads.0, mid, read, rest mid later)
 
 takes_more : {T : Type 0} (takes : T → Entry → T → Type 0) (old mid new : T) (entries : List Entry) (entry : Entry) → TakesAll takes old entries mid → takes mid entry new → TakesAll takes old (entries ++ entry ∷ []) new
 takes_more takes old mid new [] entry all took = (new, subst (λ (t : _). takes t entry new) all took, refl)

@@ -1,5 +1,5 @@
 //! What a reader reads: the head, the pairs of each partition and what closes it, and the end.
-ghost use Rattle.std.specs.Prelude.{◌≡◌, ◌≢◌, ◌≤◌, ◌%◌, ◌^◌, ⊥, false, IfOk, IfErr, IfSome, IfNone, OnOk, ◌==◌};
+ghost use Rattle.std.specs.Prelude.{◌≡◌, ◌≢◌, ◌≤◌, ◌%◌, ◌^◌, false, IfOk, IfErr, IfSome, IfNone, OnOk, ◌==◌};
 ghost use Rattle.std.specs.List.{list_all};
 ghost use Rattle.saved_items.specs.Items.{LengthsFit, PairFits, pair_of, entry_of};
 ghost use Rattle.saved_items.specs.Causes.{HasCause};

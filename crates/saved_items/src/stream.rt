@@ -1,5 +1,5 @@
 //! The content of a file, a block at a time.
-ghost use Rattle.std.specs.Prelude.{◌≡◌, ◌<◌, ◌≤◌, ◌++◌, ◌+◌, ⊥, false, [], vec_len, slice_range, IfErr, OnOk};
+ghost use Rattle.std.specs.Prelude.{◌≡◌, ◌<◌, ◌≤◌, ◌++◌, ◌+◌, false, [], vec_len, slice_range, IfErr, OnOk};
 ghost use Rattle.saved_items.specs.Causes.{HasCause};
 ghost use Rattle.saved_items.specs.Moves.{Yields, Stops, Reads};
 ghost use Rattle.saved_items.specs.Reading.{bytes_at};
