@@ -102,7 +102,10 @@ pub(crate) fn begin_kept<W: Wait, G, F: Files, K: Sink>(
     };
     Ok(Begun {
         filling: loaded.writes,
-        start: Start { base, ..start },
+        start: Start {
+            second: start.second,
+            base,
+        },
         saving,
     })
 }
