@@ -18,9 +18,12 @@ left_view owner home left = owned_as left.number (home left.part) (owner left.pa
 pub record AreTakenBack (plan : Plan) (all : List Owned) : Type 0 where
   pub each : (p : ℕ) (left : Owned) → slice_get all p ≡ Some left → (left.number ≡ p) × IsOwned plan left
 
--- What was counted of each is of its history.
+-- What was counted of a partition is of its history.
+abbrev pub IsCounted : {P : Type 0} → (P → OwnerState) → Returned P → Type 0
+IsCounted owner left = AreKept (owner left.part).shape.buckets (owner left.part).history left.flushes
+
 abbrev pub AreCounted : {P : Type 0} → (P → OwnerState) → List (Returned P) → Type 0
-AreCounted owner parts = All (λ left. AreKept (owner left.part).shape.buckets (owner left.part).history left.flushes) parts
+AreCounted owner parts = All (IsCounted owner) parts
 
 -- each of these is what a front of its place has
 abbrev pub AreHands : Plan → List (List LockedPart) → Type 0

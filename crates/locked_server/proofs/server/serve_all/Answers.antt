@@ -72,10 +72,12 @@ returns-in_err-totals-clause-serves g c =
 
 pub returns-clause-serves : goal.returns-clause-serves
 returns-clause-serves g c =
-    serves_beside _ c.requires.service.options.partitions.0 _ _ _ _ _ _ _ _ _ _ _ _ c.run_all-parts.ensures.ran c.keep_all.new.left.tables (Ok c.in_ok-totals.totals)
+    subst (λ (n : ℕ). ServesBeside c.args.shared.now.service.options g.J.ServerPlan.plan.origin c.args.shared.now.service.ports.batches c.args.shared.now.service.base c.args.shared.now.service.buffers (Ok c.in_ok-totals.totals) c.keep_all.new.left.tables n
+    (map (facts g) c.args.ends.now.items) (map (facts g) c.run_all-parts.new.ends.items) (map (of_stream g) c.args.connections.now.items) (map (of_stream g) c.run_all-parts.new.connections.items)) (sym c.keep_all.ensures.lacked)
+    (serves_beside _ c.requires.service.options.partitions.0 _ _ _ _ _ _ _ _ _ _ _ _ c.run_all-parts.ensures.ran c.keep_all.new.left.tables (Ok c.in_ok-totals.totals)
     (subst (λ (y : List (Result ⊤ ServeFault) × List (Result Totals ServeFault)). SumsUpBeside y.0 y.1 (Ok c.in_ok-totals.totals))
     (λ i. (c.as_slice.ensures.value i, c.as_slice-2.ensures.value i)) c.in_ok-totals.ensures)
-    (c.keep_all.ensures.tables ∙ ap (λ (l : List KeptSeat). l ++ map entry (map (view g) c.run_all-parts.result.parts.items)) c.requires.tables)
+    (c.keep_all.ensures.tables ∙ ap (λ (l : List KeptSeat). l ++ map entry (map (view g) c.run_all-parts.result.parts.items)) c.requires.tables))
 
 pub returns-clause-shown : goal.returns-clause-shown
 returns-clause-shown g c =

@@ -1,4 +1,4 @@
-use Rattle.std.proofs.Common.{◌≡◌, ℕ, suc, ◌+◌, ◌≤◌, ◌++◌, ◌∷◌, [], Some, None, List, map, length, slice_get, refl, sym, ap, ◌∙◌, subst, arith, append_assoc}
+use Rattle.std.proofs.Common.{◌≡◌, ℕ, suc, ◌+◌, ◌≤◌, ◌++◌, ◌∷◌, [], Some, List, map, length, slice_get, refl, sym, ap, ◌∙◌, subst, arith, append_assoc}
 use Rattle.std.specs.Option.{option_to_list}
 use Rattle.std.specs.Vec.Iter.{into_iter_items}
 use Rattle.std.proofs.lemmas.List.{length_push}
@@ -13,9 +13,8 @@ use Rattle.partition_table.specs.Tabled.{kept_seat_in}
 use Rattle.locked_front.specs.declared.returned.Returned.{Returned}
 use Rattle.locked_front.specs.Owned.{Owned}
 use Rattle.locked_front.specs.Counts.{counts_after}
-use Rattle.served.proofs.MadeOf.{nil_of}
 use Rattle.locked_server.specs.Causes.{ShownAll}
-use Rattle.locked_server.specs.Taking.{AreCounted, left_view}
+use Rattle.locked_server.specs.Taking.{IsCounted, AreCounted, left_view}
 use Rattle.locked_server.proofs.taking.keep_all.Given as given
 use Rattle.locked_server.proofs.taking.keep_all.Goals.{After-next}
 use Rattle.locked_server.proofs.taking.keep_all.Goals as goal
@@ -46,7 +45,7 @@ module _ (g : given.Over) (c : After-next g) where
 pub of-counts-requires : goal.of-counts-requires
 of-counts-requires g c =
     let z = (goal.at.of-counts-requires g c).After-next in
-    All-head _ c.in-Some.back (into_iter_items c.next.new.self) (subst (AreCounted g.P.Partition.owner) (head g z c.in-Some.back c.in-Some.is) c.loop-back.invariant.counted)
+    All-head (IsCounted g.P.Partition.owner) c.in-Some.back (into_iter_items c.next.new.self) (subst (AreCounted g.P.Partition.owner) (head g z c.in-Some.back c.in-Some.is) c.loop-back.invariant.counted)
 
 pub show-seat-requires-clause-idle : goal.show-seat-requires-clause-idle
 show-seat-requires-clause-idle g c =
@@ -84,15 +83,10 @@ loop-back-preserved g c =
     record {
       room = omega arith;
       idle = λ p left is. i.idle (suc p) left (ap (λ l. slice_get (map (view g) l) (suc p)) first ∙ is);
-      counted = All-tail _ part rest (subst (AreCounted g.P.Partition.owner) first i.counted);
+      counted = All-tail (IsCounted g.P.Partition.owner) part rest (subst (AreCounted g.P.Partition.owner) first i.counted);
       lacked = i.lacked;
       shown = λ end later. i.shown end (subst (λ (l : List KeptSeat). ShownAll g.V.Keeps.keeps c.loop-back.left.keeper l end) (ap (entries g) (sym first))
           (c.show-seat.new.self, subst (λ (o : OwnerState). g.V.Keeps.keeps c.loop-back.left.keeper (kept_seat_in o) c.show-seat.new.self) given c.show-seat.ensures.kept, later));
       kept = ap (λ (l : List KeptSeat). l ++ entries g rest) kept ∙ append_assoc c.loop-back.left.tables (entry ∷ []) (entries g rest)
           ∙ ap (λ l. c.loop-back.left.tables ++ entries g l) (sym first) ∙ i.kept;
     }
-
--- none is left
-module _ (g : given.Over) (c : After-next g) where
-  pub nothing_left : c.next.result ≡ None → into_iter_items c.loop-back.rest ≡ into_iter_items c.next.new.self
-  nothing_left is = c.next.ensures.items ∙ ap (λ o. option_to_list o ++ into_iter_items c.next.new.self) is

@@ -4,10 +4,9 @@ use Rattle.std.proofs.lemmas.List.Elements.{All-set}
 use Rattle.std.proofs.lemmas.Option.{slice_get_read}
 use Rattle.list_laws.proofs.Places.{at_map}
 use Rattle.list_laws.proofs.UpTo.{UpTo, up_none}
-use Rattle.fronts.specs.Flushes.{AreKept}
 use Rattle.locked_front.specs.declared.returned.Returned.{Returned}
 use Rattle.locked_front.specs.Owned.{Owned}
-use Rattle.locked_server.specs.Taking.{left_view}
+use Rattle.locked_server.specs.Taking.{IsCounted, left_view}
 use Rattle.locked_server.proofs.Taken.{all_at, Took, may_here, took_here, took_all}
 use Rattle.locked_server.proofs.taking.take_hand.Given as given
 use Rattle.locked_server.proofs.taking.take_hand.Goals.{After-index_mut-part}
@@ -35,13 +34,13 @@ module _ (g : given.Over) (c : After-index_mut-part g) where
       omega (arith, i.many, ap length c.in-Some.ensures.steps.0, c.requires.may.many, i.up.many, length-map now (view g), length-map c.args.parts.now.items (view g)) in
       at_map (view g) now c.loop-own.at c.index_mut-part.result.now (slice_get_read now (length now) c.loop-own.at c.index_mut-part.result.now refl low c.index_mut-part.ensures.value)
 
-  counted_here : AreKept (g.P.Partition.owner c.index_mut-part.result.now.part).shape.buckets (g.P.Partition.owner c.index_mut-part.result.now.part).history c.index_mut-part.result.now.flushes
+  counted_here : IsCounted g.P.Partition.owner c.index_mut-part.result.now
   counted_here =
       let i = c.loop-own.invariant in
       let now = c.loop-own.parts.items in
       let low : c.loop-own.at < length now =
       omega (arith, i.many, ap length c.in-Some.ensures.steps.0, c.requires.may.many, i.up.many, length-map now (view g), length-map c.args.parts.now.items (view g)) in
-      all_at _ now c.loop-own.at c.index_mut-part.result.now i.counted (slice_get_read now (length now) c.loop-own.at c.index_mut-part.result.now refl low c.index_mut-part.ensures.value)
+      all_at (IsCounted g.P.Partition.owner) now c.loop-own.at c.index_mut-part.result.now i.counted (slice_get_read now (length now) c.loop-own.at c.index_mut-part.result.now refl low c.index_mut-part.ensures.value)
 
   own_here : slice_get c.args.hand.items c.loop-own.at ≡ Some c.in-Some.own
   own_here =
@@ -74,7 +73,7 @@ loop-own-preserved g c =
           (sym (map-set (view g) c.loop-own.parts.items c.loop-own.at c.take_in.new.self))
           (took_here c.requires.may c.loop-own.invariant.up (view g c.index_mut-part.result.now) c.in-Some.own (here g z) (own_here g z) (view g c.take_in.new.self) c.take_in.ensures.took);
       rest = λ p part at. ap (slice_get c.args.hand.items) (omega arith) ∙ c.loop-own.invariant.rest (suc p) part (ap (λ l. slice_get l (suc p)) head ∙ at);
-      counted = All-set _ c.loop-own.parts.items c.loop-own.at c.take_in.new.self (c.take_in.ensures.counted (counted_here g z)) c.loop-own.invariant.counted;
+      counted = All-set (IsCounted g.P.Partition.owner) c.loop-own.parts.items c.loop-own.at c.take_in.new.self (c.take_in.ensures.counted (counted_here g z)) c.loop-own.invariant.counted;
       many = omega (arith, c.loop-own.invariant.many, ap length head);
     }
 

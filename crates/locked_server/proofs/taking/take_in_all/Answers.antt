@@ -22,8 +22,8 @@ module _ (g : given.Over) (c : After-take_all_back g) where
 pub take_hands-requires-clause-may : goal.take_hands-requires-clause-may
 take_hands-requires-clause-may g c = may_left _ _ _ (may g (goal.at.take_hands-requires-clause-may g c).After-take_all_back)
 
-pub take_hands-2-requires-clause-may : goal.take_hands-2-requires-clause-may
-take_hands-2-requires-clause-may g c = may_behind _ _ _ _ c.take_hands.ensures.took (may_right _ (map (λ hand. hand.items) c.args.stream_hands.items) _ (may g (goal.at.take_hands-2-requires-clause-may g c).After-take_all_back))
+pub take_hands-requires-2-clause-may : goal.take_hands-requires-2-clause-may
+take_hands-requires-2-clause-may g c = may_behind _ _ _ _ c.take_hands.ensures.took (may_right _ (map (λ hand. hand.items) c.args.stream_hands.items) _ (may g (goal.at.take_hands-requires-2-clause-may g c).After-take_all_back))
 
 pub returns-clause-back : goal.returns-clause-back
 returns-clause-back g c = record {
