@@ -19,7 +19,22 @@ is_command More = false
 -- a server told nothing of itself
 abbrev pub nothing_told : Told
 nothing_told = record {
-  about = record { pid = 0; uptime = 0; time = 0; threads = 0; limit_maxbytes = 0; max_connections = 0 };
+  about = record {
+    pid = 0;
+    uptime = 0;
+    time = 0;
+    user = 0;
+    system = 0;
+    threads = 0;
+    limit_maxbytes = 0;
+    hash_bytes = 0;
+    malloced = 0;
+    max_connections = 0;
+    port = 0;
+    idle_timeout = 0;
+    evicts = false;
+  };
   counts = λ counter. 0;
+  before = λ counter. 0;
   wear = λ partition. record { writes = 0; writes_left = 0 };
 }

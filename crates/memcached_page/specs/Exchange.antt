@@ -1,5 +1,5 @@
 -- What a client said, with the deeds that carried it out, and what is due to it.
-use Rattle.std.specs.Prelude.{◌≡◌, ◌==◌, ℕ, suc, Bool, true, false, ⊤, List, [], ◌∷◌, ◌++◌, length, take, filter_map, Option, Some, None, if◌then◌else◌}
+use Rattle.std.specs.Prelude.{◌≡◌, ◌==◌, ℕ, suc, Bool, true, false, ⊤, List, [], ◌∷◌, ◌++◌, length, take, nat_le, filter_map, Option, Some, None, if◌then◌else◌}
 use Rattle.std.specs.List.{list_all}
 use Rattle.memcached_text.specs.declared.reply.Reply.TheVariants.{Done as Okay, NoRoom}
 use Rattle.memcached_commands.specs.declared.asks.Asked.{Asked}
@@ -76,10 +76,11 @@ saids_text style done (said ∷ next ∷ later) = said_text style false said.0 s
 abbrev pub flush_text : Style → Bool → List Deed → List ℕ
 flush_text style done deeds = if done then said_text style true [] (Line (if list_all took deeds then Okay else NoRoom)) else []
 
--- of what asks nothing of keys, and else of what was said of each; nothing is told of what is asked behind a set
+-- Of what asks nothing of keys, and else of what was said of each. Nothing is told of what is asked behind a set, nor is that waited for.
 abbrev pub text_for : ℕ → Exchange → List Asked → List ℕ
 text_for parts e [] = plain_text parts e.told e.next
-text_for parts e (asked ∷ later) = saids_text (style_of e.next) (is_done parts e) (take (length (asks_in e.next)) (filter_map said_in e.deeds))
+text_for parts e (asked ∷ later) =
+    saids_text (style_of e.next) (nat_le (length (asked ∷ later)) (length e.deeds)) (take (length (asked ∷ later)) (filter_map said_in e.deeds))
 
 -- What is due to it so far, byte for byte.
 abbrev pub due_to : ℕ → Exchange → List ℕ

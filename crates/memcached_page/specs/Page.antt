@@ -41,11 +41,10 @@ abbrev pub is_turned_away : Entry → Bool
 is_turned_away one_away = true
 is_turned_away _ = false
 
--- All clients of all shares are served as by memcached, key by key. For so many connections memory lacked.
-pub record ServesAsMemcached (options : Options) (shares lacked : ℕ) (from : ℕ → Shelf) (before logs : ℕ → Log) : Type 0 where
-  -- Each key is in a part, and in a class of those that may take each other's place there.
+-- All clients of all shares are served key by key. For so many connections memory lacked.
+pub record ServesKeyByKey (options : Options) (shares lacked : ℕ) (from : ℕ → Shelf) (before logs : ℕ → Log) : Type 0 where
+  -- Each key is in a part.
   pub part : List ℕ → ℕ
-  pub class : List ℕ → ℕ
   pub parted : (key : List ℕ) → part key < options.partitions
   -- All that was done to the keys of a part, by whichever thread, is one course from what it began with: each command was answered by what stood there then. This is left.
   pub courses : ℕ → List Done
@@ -55,10 +54,6 @@ pub record ServesAsMemcached (options : Options) (shares lacked : ℕ) (from : �
   pub stories : ℕ → Story
   pub in_order : (p f : ℕ) → p < options.partitions → f < shares → filter (λ done. done.share == f) (courses p) ≡ filter (λ done. part_of part done.deed == p) (stories f).deeds
   pub no_others : (p : ℕ) → p < options.partitions → AllByRecursion (IsOwn shares) (courses p)
-  -- A cache loses an item only once its part's log was written round behind it, or newer keys of its class took its place.
-  pub keeps : (p : ℕ) → p < options.partitions → KeepsItems options class (from p) (courses p)
-  -- Something finds no room only where its part is full.
-  pub refused : (p : ℕ) → p < options.partitions → RefusesWhereFull options (from p) (courses p)
   pub in_time : InTime shares logs stories
   -- What clients do is as it was foretold. At each moment, what was sent to each is due to what it said, byte for byte, by the deeds until then.
   pub foretold : (f : ℕ) → f < shares → (logs f).schedule ≡ (before f).schedule
@@ -72,3 +67,12 @@ pub record ServesAsMemcached (options : Options) (shares lacked : ℕ) (from : �
   pub few : (f : ℕ) → f < shares → min (length (stories f).lacking) LAST_COUNT ≤ lacked
   pub turned_away : ℕ → ℕ
   pub counted : (f : ℕ) → f < shares → turned_away f ≡ count_by is_turned_away (logs f).entries
+
+-- They are served as by memcached: key by key, and what was stored is kept as long as there is room.
+pub record ServesAsMemcached (options : Options) (shares lacked : ℕ) (from : ℕ → Shelf) (before logs : ℕ → Log) : Type 0 where
+  pub serves : ServesKeyByKey options shares lacked from before logs
+  -- A cache loses an item only once its part's log was written round behind it, or newer keys of its class, which may take each other's place, took its own.
+  pub class : List ℕ → ℕ
+  pub keeps : (p : ℕ) → p < options.partitions → KeepsItems options class (from p) (serves.courses p)
+  -- Something finds no room only where its part is full.
+  pub refused : (p : ℕ) → p < options.partitions → RefusesWhereFull options (from p) (serves.courses p)

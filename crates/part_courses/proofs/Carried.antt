@@ -27,7 +27,7 @@ use Rattle.memcached_commands.specs.Moments.{found_in}
 use Rattle.memcached_commands.proofs.DecideLaws.{fits, left}
 use Rattle.fronts.specs.Answered.{changed, kept}
 use Rattle.fronts.specs.Changing.{write_for}
-use Rattle.fronts.specs.Flushes.{is_in_first, begins_with_feed}
+use Rattle.fronts.specs.Flushes.{is_delete, is_in_first, begins_with_feed}
 use Rattle.fronts.specs.Looks.{Look, IsLookAt}
 use Rattle.memcached_decisions.specs.Numbered.{numbered, moment_at, value_in, stored_becoming}
 use Rattle.command_answers.specs.AskAnswers.{AnswersAsk}
@@ -168,7 +168,7 @@ module _ {options : Options} {base : ℕ} {h : History} {shelf : Shelf} (g : Beg
 
     module _ (write : Write) (outcome : Outcome) (may : MayGive options h write outcome) (on : is_accepted outcome ≡ true)
         (is : write_for key look.value (stored_becoming (becoming_of moment asked.ask (value_in look.value))) ≡ Some write) (now : Shelf) (is_now : Now now)
-        (taken : found ≡ None → look.value ≢ None → now.items key ≡ None) where
+        (taken : write ≡ write_of Del key [] → found ≡ None → look.value ≢ None → now.items key ≡ None) where
       abbrev left_shelf : Becoming → Shelf
       left_shelf b = becomes_of (at second number now) key b now
 
@@ -213,7 +213,7 @@ module _ {options : Options} {base : ℕ} {h : History} {shelf : Shelf} (g : Beg
           | inl go ↦ subst (λ z. Stands options base (h ++ write ∷ []) (left_shelf z)) (sym go)
               (deletes (left_shelf goes) (own_key key None (now.items key)) (λ k differ. other_key k key None (now.items k) differ ∙ is_now.others k differ) is_now.free is_now.flushes del.1)
           | inr dead ↦ subst (λ z. Stands options base (h ++ write ∷ []) (left_shelf z)) (sym dead.0)
-              (deletes (left_shelf stays) (taken (found_none (value_in look.value) found dead.1) (some_value dead.1)) is_now.others is_now.free is_now.flushes del.1)
+              (deletes (left_shelf stays) (taken del.1 (found_none (value_in look.value) found dead.1) (some_value dead.1)) is_now.others is_now.free is_now.flushes del.1)
         ]
       ]
         where
@@ -249,28 +249,34 @@ module _ {options : Options} {base : ℕ} {h : History} {shelf : Shelf} (g : Beg
 
     -- so in each case
 
-    abbrev Came : RunStep → Bool → Bool → Type 0
-    Came step on dead =
-        One options base shelf (h ++ cons_option (cond on (Some step.write) None) []) (cond (dead && on) (went second key ∷ []) [] ++ carried second number asked (cond on decision.says refusal) ∷ [])
+    abbrev Came : RunStep → (on dead delete : Bool) → Type 0
+    Came step on dead delete =
+        One options base shelf (h ++ cons_option (cond on (Some step.write) None) []) (cond (dead && delete && on) (went second key ∷ []) [] ++ carried second number asked (cond on decision.says refusal) ∷ [])
 
     pub changed_one : (step : RunStep) → MayGive options h step.write step.outcome → AnswersAsk base asked (changed step look)
-        → Came step (is_accepted step.outcome) (is_dead base look)
-    changed_one step may is = by (is_accepted step.outcome) (is_dead base look) refl refl
+        → Came step (is_accepted step.outcome) (is_dead base look) (is_delete step.write.op)
+    changed_one step may is = by (is_accepted step.outcome) (is_dead base look) (is_delete step.write.op) refl refl refl
       where
         refused_came : One options base shelf (h ++ []) (carried second number asked refusal ∷ [])
         refused_came = subst (λ z. One options base shelf z (carried second number asked refusal ∷ [])) (sym (append-nil h)) (refused_one step.write is)
 
-        by : (on dead : Bool) → is_accepted step.outcome ≡ on → is_dead base look ≡ dead → Came step on dead
-        by false true off is_it = refused_came
-        by false false off is_it = refused_came
-        by true true on is_it = let none = found_none look.value found is_it in record {
+        carried_came : is_accepted step.outcome ≡ true → (step.write ≡ write_of Del key [] → found ≡ None → look.value ≢ None → shelf.items key ≡ None)
+            → One options base shelf (h ++ step.write ∷ []) (carried second number asked decision.says ∷ [])
+        carried_came on taken = record {
+          steps = (may_carry shelf now_itself, tt);
+          stands_then = accepted_is step.write step.outcome may on is shelf now_itself taken;
+        }
+
+        by : (on dead delete : Bool) → is_accepted step.outcome ≡ on → is_dead base look ≡ dead → is_delete step.write.op ≡ delete → Came step on dead delete
+        by false true true off is_it deletes_it = refused_came
+        by false true false off is_it deletes_it = refused_came
+        by false false delete off is_it deletes_it = refused_came
+        by true true true on is_it deletes_it = let none = found_none look.value found is_it in record {
           steps = (
             there_alike second shelf.free number shelf (shelf.items key) ∙ ap (λ m. there m (shelf.items key)) (at_moment shelf refl) ∙ found_there ∙ none,
             (may_carry (with_item key None shelf) (now_without none), tt),
           );
-          stands_then = accepted_is step.write step.outcome may on is (with_item key None shelf) (now_without none) (λ _ _. own_key key None (shelf.items key));
+          stands_then = accepted_is step.write step.outcome may on is (with_item key None shelf) (now_without none) (λ _ _ _. own_key key None (shelf.items key));
         }
-        by true false on is_it = record {
-          steps = (may_carry shelf now_itself, tt);
-          stands_then = accepted_is step.write step.outcome may on is shelf now_itself (λ none some. absurd (true≢false (sym (dead_then look.value found none some) ∙ is_it)));
-        }
+        by true true false on is_it deletes_it = carried_came on (λ write none some. absurd (true≢false (sym (ap (λ (w : Write). is_delete w.op) write) ∙ deletes_it)))
+        by true false delete on is_it deletes_it = carried_came on (λ write none some. absurd (true≢false (sym (dead_then look.value found none some) ∙ is_it)))

@@ -24,7 +24,7 @@ then_course served shelf [] later steps rest = rest
 then_course served shelf (deed ∷ deeds) later steps rest = (steps.0, then_course served (after deed shelf) deeds later steps.1 rest)
 
 -- what is written of a look is of its key
-own_key : (key : List ℕ) (value : Option (List ℕ)) (b : Becoming) (write : Write) → write_for key value b ≡ Some write → write.key ≡ key
+pub own_key : (key : List ℕ) (value : Option (List ℕ)) (b : Becoming) (write : Write) → write_for key value b ≡ Some write → write.key ≡ key
 own_key key value stays write is = absurd (cc)
 own_key key value (becomes next) write is = cc
 own_key key None goes write is = absurd (cc)

@@ -1,8 +1,8 @@
 mod Values
-mod Refusals
+pub mod Refusals
 mod Shelves
-mod Written
+pub mod Written
 mod Steps
 mod Carried
 mod Flushed
-mod Courses
+pub mod Courses

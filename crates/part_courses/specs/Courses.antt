@@ -4,12 +4,13 @@ use Rattle.partition_model.specs.declared.options.Mode.TheVariants.{Store}
 use Rattle.partition_model.specs.declared.options.Options.{Options}
 use Rattle.partition_model.specs.Write.{is_accepted}
 use Rattle.partition_model.specs.History.{History}
+use Rattle.partition_model.specs.Run.{RunStep}
 use Rattle.memcached_commands.specs.declared.asks.Asked.{Asked}
 use Rattle.memcached_commands.specs.Fit.{IsFitAsked}
 use Rattle.memcached_commands.specs.Moments.{found_in}
 use Rattle.fronts.specs.declared.flushes.Flush.{Flush}
 use Rattle.fronts.specs.Answered.{Answered, wrote, changed, kept}
-use Rattle.fronts.specs.Flushes.{begins_with_feed}
+use Rattle.fronts.specs.Flushes.{begins_with_feed, is_delete}
 use Rattle.fronts.specs.Looks.{Look}
 use Rattle.memcached_decisions.specs.Numbered.{numbered, moment_at, value_in}
 use Rattle.command_answers.specs.AskAnswers.{AnswersAsk, said_of}
@@ -52,10 +53,14 @@ AreServed options base part history (served ∷ later) =
 abbrev pub is_dead : ℕ → Look → Bool
 is_dead base look = is_some look.value && not (is_some (found_in (moment_at base look.when) (value_in look.value)))
 
--- What an answer came to, behind so many writes. An item that is over goes before what is written in its place.
+-- An item that is over goes first, where it is deleted. Where something is stored in its place, that takes its room.
+abbrev pub goes_first : ℕ → RunStep → Look → Bool
+goes_first base step look = is_dead base look && is_delete step.write.op && is_accepted step.outcome
+
+-- what an answer came to, behind so many writes
 abbrev pub deeds_of : ℕ → ℕ → ℕ → Purpose → Answered → List Deed
 deeds_of base part written (asks asked) (changed step look) =
-    (if is_dead base look && is_accepted step.outcome then went look.when.second asked.key ∷ [] else [])
+    (if goes_first base step look then went look.when.second asked.key ∷ [] else [])
     ++ carried look.when.second (numbered base written) asked (said_of base asked (changed step look)) ∷ []
 deeds_of base part written (asks asked) (kept key stamp look) = carried look.when.second (numbered base written) asked (said_of base asked (kept key stamp look)) ∷ []
 deeds_of base part written (flushes flush) (wrote step) = flushed part (numbered base (written + 1)) flush (is_accepted step.outcome) ∷ []

@@ -14,6 +14,7 @@ use Rattle.memcached_text.specs.StorageLine.{item_of, stored, set_line}
 use Rattle.memcached_commands.specs.Counting.{number_in}
 use Rattle.memcached_commands.specs.Decide.{decide}
 use Rattle.memcached_commands.specs.Moments.{end_of}
+use Rattle.memcached_meta.specs.Next.{next_meta}
 use Rattle.memcached_requests.specs.Next.{next_of}
 use Rattle.memcached_requests.specs.Replies.{said_text}
 use Rattle.memcached_page.specs.Course.{Deed}
@@ -32,7 +33,7 @@ abbrev first_in : List ℕ → Deed → Exchange
 first_in bytes deed = record { next = next_of bytes; deeds = deed ∷ []; told = nothing_told; lacked = false }
 
 pub returns-clause-first : goal.returns-clause-first
-unfolding next_of said_text next_line next_in most_line is_get says_at storing_at line_of words_of set_line item_of stored get_line quiet_tail number_of lifetime_of block_at ends_as_http value_text digits
+unfolding next_of next_meta said_text next_line next_in most_line is_get says_at storing_at line_of words_of set_line item_of stored get_line quiet_tail number_of lifetime_of block_at ends_as_http value_text digits
 returns-clause-first c =
     let bytes : List ℕ = codes "set n 0 0 1\r\n5\r\nget n\r\n" in
     let later : List ℕ = codes "get n\r\n" in
@@ -50,7 +51,7 @@ returns-clause-first c =
     }
 
 pub returns-clause-second : goal.returns-clause-second
-unfolding next_of said_text next_line next_in most_line is_get says_at line_of words_of count_line counted quiet_tail number_of ends_as_http number_text digits
+unfolding next_of next_meta said_text next_line next_in most_line is_get says_at line_of words_of count_line counted quiet_tail number_of ends_as_http number_text digits
 returns-clause-second c = record {
   said = record { next = next_of (codes "incr n 2\r\n"); deeds = done_for 1 counting; told = nothing_told; lacked = false } ∷ [];
   rest = [];

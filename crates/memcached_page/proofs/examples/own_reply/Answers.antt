@@ -4,6 +4,7 @@ use Rattle.memcached_text.specs.Forms.{line_of, ends_as_http}
 use Rattle.memcached_text.specs.KeyLine.{get_line}
 use Rattle.memcached_text.specs.Lines.{words_of}
 use Rattle.memcached_text.specs.Next.{says_at, next_in, is_get, most_line, next_of as next_line}
+use Rattle.memcached_meta.specs.Next.{next_meta}
 use Rattle.memcached_requests.specs.Next.{next_of}
 use Rattle.memcached_requests.specs.Replies.{said_text}
 use Rattle.memcached_requests.specs.Requests.{len_of}
@@ -28,16 +29,16 @@ head (byte ∷ bytes) = byte
 
 -- what is due to it is the end of a get
 due_is : (e : Exchange) → next_of gets ≡ e.next → e.deeds ≡ misses ∷ [] → due_to 1 e ≡ codes "END\r\n"
-unfolding next_of said_text next_line next_in most_line is_get says_at line_of words_of get_line ends_as_http
+unfolding next_of next_meta said_text next_line next_in most_line is_get says_at line_of words_of get_line ends_as_http
 due_is e next deeds = rw (sym next, deeds) refl
 
 -- nothing stands behind it
 alone : (e : Exchange) → next_of gets ≡ e.next → drop (len_of e.next) gets ≡ []
-unfolding next_of next_line next_in most_line is_get says_at line_of words_of get_line ends_as_http
+unfolding next_of next_meta next_line next_in most_line is_get says_at line_of words_of get_line ends_as_http
 alone e next = rw (sym next) refl
 
 none_in_nothing : (e : Exchange) → StandsFirst [] e → ⊥
-unfolding next_of next_line next_in most_line is_get
+unfolding next_of next_meta next_line next_in most_line is_get
 none_in_nothing e first = first.some (sym first.next)
 
 append_nothing : {X : Type 0} (xs : List X) → xs ++ [] ≡ xs

@@ -1,0 +1,14 @@
+pub mod Weave
+pub mod Purposes
+pub mod Talks
+pub mod Marks
+pub mod Pieces
+pub mod Parts
+pub mod Fits
+pub mod Moments
+pub mod Shares
+pub mod Seconds
+pub mod Ends
+pub mod Facts
+pub mod Law
+pub mod Grammar
