@@ -31,7 +31,7 @@ own_key key None goes write is = absurd (cc)
 own_key key (Some stored) goes write is = cc
 
 module _ {options : Options} {base : ℕ} (part : ℕ) {h : History} {shelf : Shelf} (g : Begun options base h shelf) where
-  one : (purpose : Purpose) (answered : Answered) → IsAnswerBehind options h answered → IsFor options base part purpose answered
+  pub one : (purpose : Purpose) (answered : Answered) → IsAnswerBehind options h answered → IsFor options base part purpose answered
       → One options base shelf (behind h answered) (deeds_of base part (length h) purpose answered)
   one (asks asked) (wrote step) answer for = absurd (for.2)
   one (asks asked) (got key stamp value) answer for = absurd (for.2)
