@@ -176,11 +176,11 @@ module _ (options : Options) (store_mode : options.mode ≡ Store) (pairs : List
 filled_each : (options : Options) (mode : Mode) → options.mode ≡ mode → (second : ℕ) (part : Part) (flush : List Write) → AreOnce part.pairs → AsksAgain options part flush → (key : List ℕ)
     → IsSameOrGone mode (answer_of options (puts_of (lasting second part.pairs) ++ flush) key) (stored_under key (lasting second part.pairs))
 filled_each options Store is second part flush once asks key =
-    stored_filled options is (lasting second part.pairs) key (once_passing (lasts second) part.pairs once) part flush asks
-    (λ some write none. stored_passing (lasts second) part.pairs write.key once ∙ ap (passing (lasts second)) none)
+    stored_filled options is (lasting second part.pairs) key (once_passing (λ (_ : List ℕ). lasts second) part.pairs once) part flush asks
+    (λ some write none. stored_passing (λ (_ : List ℕ). lasts second) part.pairs write.key once ∙ ap (passing (lasts second)) none)
 filled_each options Cache is second part flush once asks key =
     let pairs = lasting second part.pairs in
-    one_behind options pairs key [] (puts_of pairs ++ flush) (gives_puts options part pairs pairs flush asks (all_stored pairs (once_passing (lasts second) part.pairs once))) (inr (none_at_first options key))
+    one_behind options pairs key [] (puts_of pairs ++ flush) (gives_puts options part pairs pairs flush asks (all_stored pairs (once_passing (λ (_ : List ℕ). lasts second) part.pairs once))) (inr (none_at_first options key))
 
 pub fills_what_lasts : FillsWhatLasts
 fills_what_lasts options second part filled once is =

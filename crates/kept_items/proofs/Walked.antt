@@ -8,7 +8,7 @@ use Rattle.saved_items.specs.declared.items.Closing.{Closing}
 use Rattle.saved_items.specs.Items.{Pair, Entry, Keeps, Closes}
 use Rattle.saved_items.specs.Spiller.{HasSaved, Saves}
 use Rattle.kept_items.specs.Parts.{Part, entries_of, entries_in, with_pair, parts_of}
-use Rattle.kept_items.specs.Kept.{behind, is_kept, kept_at, kept_of, AreRecords, AreInOrder, AreKeptInOrder}
+use Rattle.kept_items.specs.Kept.{behind, is_saved, kept_at, kept_of, AreRecords, AreInOrder, AreKeptInOrder}
 use Rattle.kept_items.specs.Walk.{SavesAll, SavesStep}
 use Rattle.kept_items.specs.Laws.{PartsAgain, KeepsWhatIsThere}
 use Rattle.kept_items.proofs.Pairs.{passing, pass, stored_passing, once_passing}
@@ -25,34 +25,34 @@ parts_again (part ∷ parts) = parts_behind part.pairs part.closing (entries_in 
 
 -- ---- what is kept
 
-kept_is : (at : Moment) (o : Option (List ℕ)) → passing (is_kept at) o ≡ kept_of at o
-kept_is at None = refl
-kept_is at (Some stored) = refl
+kept_is : (at : Moment) (key : List ℕ) (o : Option (List ℕ)) → passing (is_saved at key) o ≡ kept_of at key o
+kept_is at key None = refl
+kept_is at key (Some stored) = refl
 
-records_passing : (test : List ℕ → Bool) (pairs : List Pair) (records : List Record) → AreRecords pairs records → AreRecords (pass test pairs) (filter (λ held. test held.value) records)
+records_passing : (test : List ℕ → List ℕ → Bool) (pairs : List Pair) (records : List Record) → AreRecords pairs records → AreRecords (pass test pairs) (filter (λ held. test held.key held.value) records)
 records_passing test [] [] are = tt
 records_passing test [] (held ∷ records) are = absurd are
 records_passing test (pair ∷ pairs) [] are = absurd are
-records_passing test (pair ∷ pairs) (held ∷ records) are = go (test pair.value) refl (records_passing test pairs records are.2)
+records_passing test (pair ∷ pairs) (held ∷ records) are = go (test pair.key pair.value) refl (records_passing test pairs records are.2)
   where
-    go : (t : Bool) → test pair.value ≡ t → AreRecords (pass test pairs) (filter (λ h. test h.value) records) → AreRecords (pass test (pair ∷ pairs)) (filter (λ h. test h.value) (held ∷ records))
-    go true t rest =
-        let there : test held.value ≡ true = ap test (sym are.1) ∙ t in
-        rw (t, there) (are.0, are.1, rest)
-    go false t rest =
-        let there : test held.value ≡ false = ap test (sym are.1) ∙ t in
-        rw (t, there) rest
+    there : (t : Bool) → test pair.key pair.value ≡ t → test held.key held.value ≡ t
+    there t is = subst (λ (k : List ℕ). test k held.value ≡ t) are.0 (subst (λ (v : List ℕ). test pair.key v ≡ t) are.1 is)
+
+    go : (t : Bool) → test pair.key pair.value ≡ t → AreRecords (pass test pairs) (filter (λ h. test h.key h.value) records)
+        → AreRecords (pass test (pair ∷ pairs)) (filter (λ h. test h.key h.value) (held ∷ records))
+    go true t rest = let here = there true t in rw (t, here) (are.0, are.1, rest)
+    go false t rest = let here = there false t in rw (t, here) rest
 
 order_kept : (at : Moment) (state : State) (pairs : List Pair) → AreInOrder state pairs → AreKeptInOrder at state (kept_at at pairs)
-order_kept at (cache_state cache) pairs are = records_passing (is_kept at) pairs cache.records are
+order_kept at (cache_state cache) pairs are = records_passing (is_saved at) pairs cache.records are
 order_kept at (store_state store) pairs are = tt
 
 pub keeps_what_is_there : KeepsWhatIsThere
 keeps_what_is_there options base second history walked is =
     let at = behind options base second history in
     record {
-      each = λ key. stored_passing (is_kept at) walked key is.once ∙ ap (passing (is_kept at)) (is.each key) ∙ kept_is at _;
-      once = once_passing (is_kept at) walked is.once;
+      each = λ key. stored_passing (is_saved at) walked key is.once ∙ ap (passing (is_saved at key)) (is.each key) ∙ kept_is at key _;
+      once = once_passing (is_saved at) walked is.once;
       order = order_kept at (state_of options history) walked is.order;
       written = refl;
       next = refl;
@@ -72,7 +72,7 @@ pub so_far_first : (at : Moment) (closing : Closing) (old : Option (List ℕ)) (
 so_far_first at closing old s walked = λ new last all. all
 
 module _ (at : Moment) (closing : Closing) (old now : Option (List ℕ)) (s t : Spiller) (walked rest : List Pair) (so_far : SoFar at closing old now s t walked rest) where
-  on : (next : Option (List ℕ)) (u : Spiller) (left : List Pair) (pair : Pair) → rest ≡ pair ∷ left → (b : Bool) → is_kept at pair.value ≡ b
+  on : (next : Option (List ℕ)) (u : Spiller) (left : List Pair) (pair : Pair) → rest ≡ pair ∷ left → (b : Bool) → is_saved at pair.key pair.value ≡ b
       → MatchBool b (Saves now next t u (Keeps pair)) ((next ≡ now) × (u ≡ t)) → SoFar at closing old next s u walked left
   on next u left pair is true kept saves = λ new last all.
       so_far new last (subst (λ (r : List Pair). SavesAll now new t last (entries_of (kept_at at r) closing)) (sym is) (rw kept (saves_then now next new t u last (Keeps pair) (entries_of (kept_at at left) closing) saves all)))
@@ -80,7 +80,7 @@ module _ (at : Moment) (closing : Closing) (old now : Option (List ℕ)) (s t : 
       so_far new last (subst (λ (r : List Pair). SavesAll now new t last (entries_of (kept_at at r) closing)) (sym is) (rw kept (subst (λ (o : Option (List ℕ)). SavesAll o new t last (entries_of (kept_at at left) closing)) same.0 (subst (λ (v : Spiller). SavesAll next new v last (entries_of (kept_at at left) closing)) same.1 all))))
 
   pub so_far_then : (next : Option (List ℕ)) (u : Spiller) (left : List Pair) (more : Bool) → SavesStep now next t u at rest left more → SoFar at closing old next s u walked left
-  so_far_then next u left true step = on next u left step.0 step.1 (is_kept at step.0.value) refl step.2
+  so_far_then next u left true step = on next u left step.0 step.1 (is_saved at step.0.key step.0.value) refl step.2
   so_far_then next u left false step = λ new last all.
       so_far new last (subst (λ (r : List Pair). SavesAll now new t last (entries_of (kept_at at r) closing)) (step.1 ∙ sym step.0) (subst (λ (o : Option (List ℕ)). SavesAll o new t last (entries_of (kept_at at left) closing)) step.2 (subst (λ (v : Spiller). SavesAll next new v last (entries_of (kept_at at left) closing)) step.3 all)))
 

@@ -6,13 +6,16 @@ use Rattle.memcached_text.specs.Item.{item_in}
 use Rattle.memcached_commands.specs.Moments.{found_in}
 use Rattle.fronts.specs.Flushes.{flushes_in}
 use Rattle.memcached_decisions.specs.Numbered.{numbered}
+use Rattle.saved_items.specs.declared.items.TheConstants.{MAX_SAVED_KEY_LEN}
 use Rattle.kept_items.specs.Parts.{Part}
 use Rattle.kept_items.specs.Kept.{behind, is_kept}
 use Rattle.kept_items.specs.Left.{IsLeft}
 use Rattle.kept_items.specs.Loaded.{HasFilled, IsSameOrGone}
 
--- What holds of a partition that commands alone wrote to. Each number is below the next one. While a flush waits, no item will be there at its second.
+-- What holds of a partition that commands alone wrote to. Each key is one that a file may have, and each number is below the next one. While a flush waits, no item
+-- will be there at its second.
 pub record IsSound (options : Options) (base second : ℕ) (history : History) : Type 0 where
+  pub keys : (key : List ℕ) → IfSome (answer_of options history key) (λ stored. length key ≤ MAX_SAVED_KEY_LEN)
   pub numbers : (key : List ℕ) → IfSome (answer_of options history key) (λ stored. (item_in stored).unique < numbered base (length history))
   pub waits : second < (flushes_in options.buckets history).due → (key : List ℕ)
       → IfSome (answer_of options history key) (λ stored. is_kept (behind options base (flushes_in options.buckets history).due history) stored ≡ false)

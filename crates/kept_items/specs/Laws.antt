@@ -15,7 +15,7 @@ use Rattle.kept_items.specs.Loaded.{IsFilling, HasFilled}
 abbrev pub PartsAgain : Type 0
 PartsAgain = (parts : List Part) → parts_of (entries_in parts) ≡ parts
 
--- What is there of a walk is what a partition leaves, with what closes it.
+-- What is saved of a walk is what a partition leaves, with what closes it.
 abbrev pub KeepsWhatIsThere : Type 0
 KeepsWhatIsThere = (options : Options) (base second : ℕ) (history : History) (walked : List Pair) → IsWalk options history walked
     → IsLeft options base second history

@@ -15,7 +15,7 @@ use Rattle.kept_items.specs.Kept.{behind, stored_under, AreOnce, kept_of, AreKep
 -- A part has what is there of a partition behind a history, at a second: each item once, as it is stored, and nothing else. What closes it says how many writes
 -- were accepted, which unique number comes next, and which flush waits.
 pub record IsLeft (options : Options) (base second : ℕ) (history : History) (part : Part) : Type 0 where
-  pub each : (key : List ℕ) → stored_under key part.pairs ≡ kept_of (behind options base second history) (answer_of options history key)
+  pub each : (key : List ℕ) → stored_under key part.pairs ≡ kept_of (behind options base second history) key (answer_of options history key)
   pub once : AreOnce part.pairs
   pub order : AreKeptInOrder (behind options base second history) (state_of options history) part.pairs
   pub written : part.closing.written ≡ length history

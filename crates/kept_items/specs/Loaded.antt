@@ -63,6 +63,11 @@ abbrev pub PassesOn : {T : Type 0} → (T → Entry → T → Type 0) → ℕ �
 PassesOn takes second old (Keeps pair) new = MatchBool (lasts second pair.value) (takes old (Keeps pair) new) (new ≡ old)
 PassesOn takes second old (Closes closing) new = takes old (Closes closing) new
 
+-- and refuses a pair that lasts, or a closing, where who takes entries does
+abbrev pub RefusesWhatLasts : {T : Type 0} → (T → Entry → T → Type 0) → ℕ → T → Entry → T → Type 0
+RefusesWhatLasts refuses second old (Keeps pair) new = (lasts second pair.value ≡ true) × refuses old (Keeps pair) new
+RefusesWhatLasts refuses second old (Closes closing) new = refuses old (Closes closing) new
+
 -- the greatest of the next unique numbers so far
 abbrev pub next_after : ℕ → Entry → ℕ
 next_after next (Keeps pair) = next

@@ -12,5 +12,5 @@ mod walk;
 
 pub use laws::{fills_what_lasts, goes_on, keeps_what_is_there, parts_again, stop_and_start};
 pub use loading::{Lasting, lasts};
-pub use saving::{is_kept, save_part};
+pub use saving::{is_kept, is_saved, save_part};
 pub use walk::Walks;

@@ -1,6 +1,6 @@
 //! What is loaded of a file.
 ghost use Rattle.std.specs.Prelude.{◌≡◌, OnOk};
-ghost use Rattle.kept_items.specs.Loaded.{lasts, next_after, PassesOn};
+ghost use Rattle.kept_items.specs.Loaded.{lasts, next_after, PassesOn, RefusesWhatLasts};
 
 use memcached_text::read_item;
 use saved_items::{Closing, Refused, SavedPair, TakesEntries};
@@ -25,6 +25,8 @@ pub struct Lasting<T> {
 
 impl<T: TakesEntries> TakesEntries for Lasting<T> {
     ghost takes = { λ old entry new. (new.second ≡ old.second) × (new.next ≡ next_after old.next entry) × PassesOn T.takes old.second old.taker entry new.taker };
+
+    ghost refuses = { λ old entry new. (new.second ≡ old.second) × (new.next ≡ old.next) × RefusesWhatLasts T.refuses old.second old.taker entry new.taker };
 
     fn pair(&mut self, pair: &SavedPair) -> Result<(), Refused> {
         if lasts(self.second, pair.value.as_slice()) {

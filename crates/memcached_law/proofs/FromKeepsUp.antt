@@ -1,8 +1,8 @@
 -- From the contract of a server to its shares.
-use Rattle.std.specs.Prelude.{⊤, Result, Ok, Err, IfSome, option_map, sum, slice_get}
+use Rattle.std.specs.Prelude.{Result, Ok, Err, IfSome, option_map, sum, slice_get, codes}
 use Rattle.std.proofs.Common.{◌≡◌, ℕ, ◌+◌, ◌^◌, ◌<◌, ◌≤◌, ◌⊎◌, inl, inr, List, [], ◌∷◌, ◌++◌, length, map, Option, Some, None, refl, sym, ap, subst, ◌∙◌, append-nil, arith}
 use Rattle.std.proofs.lemmas.List.Sums.{get_or-le-sum_by}
-use Rattle.std.proofs.lemmas.Option.{same_Some, IfSome_then, slice_get_within, get_or_from_slice_get}
+use Rattle.std.proofs.lemmas.Option.{same_Some, slice_get_within, get_or_from_slice_get}
 use Rattle.list_laws.proofs.Places.{element_at}
 use Rattle.connections.specs.Log.{Log, received_of}
 use Rattle.connections.specs.Shares.{ShareLogs, ShareFacts}
@@ -11,9 +11,7 @@ use Rattle.partition_model.specs.declared.write.Write.{Write}
 use Rattle.partition_model.specs.History.{History}
 use Rattle.outside.specs.PortStates.{PortStates}
 use Rattle.fronts.specs.Answered.{Answered}
-use Rattle.fronts.specs.Placed.{Placed}
 use Rattle.fronts.specs.declared.totals.Totals.{Totals}
-use Rattle.fronts.specs.declared.totals.ServeFault.{ServeFault}
 use Rattle.fronts.specs.declared.totals.ServeFault.TheVariants as faults
 use Rattle.datagram_answers.specs.Dealing.{Dealing, answered_in}
 use Rattle.connection_loop.specs.declared.desk.TheConstants.{MOST_UNSENT}
@@ -28,7 +26,7 @@ use Rattle.locked_server.specs.Filled.{origin_of}
 use Rattle.locked_server.specs.Streams.{ListenFacts, ServesClients, ServesFrom, AreStreams, counted_by_all, others_of, with_shares}
 use Rattle.locked_server.specs.Causes.{HasCause, IsCauseOfStop}
 use Rattle.daemon_words.specs.DaemonWords.{Service}
-use Rattle.server_words.specs.Output.{SinkFacts}
+use Rattle.server_words.specs.Output.{SinkFacts, with_line_feed}
 use Rattle.daemon.specs.declared.status.DaemonStatus.{DaemonStatus}
 use Rattle.daemon.specs.declared.status.DaemonStatus.TheVariants.{Usage, NoMemory, TraceLong, ReadFault, WriteFault, NetFault, ImageRefused, UsedUp, Stopped}
 use Rattle.daemon.specs.Files.{FilesFacts}
@@ -58,9 +56,9 @@ totals_of : (first : ℕ) (answer : Result Totals Stop) (old new : SinkFacts) (s
 totals_of first (Ok totals) old new status is last = (totals, refl)
 totals_of first (Err (Unbound port)) old new status is last = absurd (not_said NetFault status (unbound_text port) old new (λ no. no) is last)
 totals_of first (Err (Unheard place)) old new status is last = absurd (not_said NetFault status (unbound_text first) old new (λ no. no) is last)
-totals_of first (Err (Fault faults.Net)) old new status is last = absurd (not_told NetFault status _ old new (λ no. no) is last)
+totals_of first (Err (Fault faults.Net)) old new status is last = absurd (not_told NetFault status (with_line_feed (codes "net fault")) old new (λ no. no) is last)
 totals_of first (Err (Fault faults.NoMemory)) old new status is last = absurd (subst IsCarriedOut last.0 is)
-totals_of first (Err Refused) old new status is last = absurd (not_told ImageRefused status _ old new (λ no. no) is last)
+totals_of first (Err Refused) old new status is last = absurd (not_told ImageRefused status (with_line_feed (codes "pair refused")) old new (λ no. no) is last)
 totals_of first (Err Unannounced) old new status is last = absurd (subst IsCarriedOut last.0 is)
 
 -- where there is no image, nothing is due of one
@@ -80,8 +78,8 @@ on_ports_then None a is f = is
 on_ports_then (Some b) None is f = absurd is
 on_ports_then (Some b) (Some a) is f = f b a is
 
-both_logs : {P : Log → Log → Type 0} (b a : Option Log) (x y : Log) → b ≡ Some x → a ≡ Some y → OnLogs P b a → P x y
-both_logs {P} b a x y b_is a_is on = subst (λ (w : Option Log × Option Log). OnLogs P w.0 w.1) (λ i. (b_is i, a_is i)) on
+both_logs : (P : Log → Log → Type 0) (b a : Option Log) (x y : Log) → b ≡ Some x → a ≡ Some y → OnLogs P b a → P x y
+both_logs P b a x y b_is a_is on = subst (λ (w : Option Log × Option Log). OnLogs P w.0 w.1) (λ i. (b_is i, a_is i)) on
 
 mapped : {X Y : Type 0} (g : X → Y) (o : Option X) (y : Y) → option_map g o ≡ Some y → (x : X) × (g x ≡ y)
 mapped g None y is = absurd (cc)
@@ -167,7 +165,7 @@ module _ (service : Service) (base : ℕ) (old new : DaemonOutside) (waited left
         h = heard f own own_at low
 
         it : ServesClients service.options base h.serves.old h.serves.new own (waited f) (left f)
-        it = both_logs h.old_share.log h.new_share.log (waited f) (left f) (waited_log f own h low) (left_log f own h low) h.serves.serves.clients
+        it = both_logs (ServesClients service.options base h.serves.old h.serves.new own) h.old_share.log h.new_share.log (waited f) (left f) (waited_log f own h low) (left_log f own h low) h.serves.serves.clients
 
     -- what is promised, where the net tells its ports
     abbrev Serves : Type 0
@@ -176,12 +174,13 @@ module _ (service : Service) (base : ℕ) (old new : DaemonOutside) (waited left
     pub all_serve : 1 ≤ service.options.partitions → service.ports.fronts ≡ 0 → writes ≡ [] → service.options.mode ≡ Store → base + service.options.wear < 2 ^ 62
         → OnPorts (λ ports ports'. Serves) old.ports.net.ports new.ports.net.ports
     all_serve some no_ports none is_store small =
-        let said = subst (λ came. IsCauseOnceBound (others_of c.answers c.olds c.news) came service.options (origin_of service.options writes) service.ports new.tables old.ports.net new.ports.net) c.came_is c.said in
+        let said : IsCauseOnceBound (others_of c.answers c.olds c.news) (Some (Ok totals)) service.options (origin_of service.options writes) service.ports new.tables old.ports.net new.ports.net =
+        subst (λ came. IsCauseOnceBound (others_of c.answers c.olds c.news) came service.options (origin_of service.options writes) service.ports new.tables old.ports.net new.ports.net) c.came_is c.said in
         on_ports_then old.ports.net.ports new.ports.net.ports said.served (λ x y s.
         let empty_fronts = none_left s.fronts (s.served.many ∙ no_ports) in
         let lawful : AnswersLawfully service.options empty_origin c.answers s.runs =
         subst (λ (w : (ℕ → History) × List (List Answered)). AnswersLawfully service.options w.0 w.1 s.runs)
-        (λ i. (λ p. origin_of service.options (none i) p, (ap (λ l. c.answers ++ map answered_in l) empty_fronts ∙ append-nil c.answers) i)) s.served.answered in
+        (λ i. ((λ p. origin_of service.options (none i) p), (ap (λ l. c.answers ++ map answered_in l) empty_fronts ∙ append-nil c.answers) i)) s.served.answered in
         subst (λ n. (serves : ServesKeyByKey service.options n new.lacked (λ part. empty) waited left) × ((p : ℕ) → p < service.options.partitions → KeepsItems service.options (λ key. 0) empty (serves.courses p)))
         c.are.fronts (of_store service.options base MOST_UNSENT (buffers_of service.streams) new.lacked c.answers s.runs waited left is_store some small lawful talked))
       where

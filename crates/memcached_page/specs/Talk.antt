@@ -91,13 +91,13 @@ asked_in story = filter (λ done. is_some done.client) story.deeds
 abbrev pub TalkAt : ℕ → Log → Story → ℕ → ℕ → Type 0
 TalkAt parts log story n c = Talks parts (received_of c (calls_by log n)) (sent_of c (calls_by log n)) (done_for c (take (story.reached n) (asked_in story)))
 
--- At each moment it had talked so with each client, and in the end all that they asked for is done. So nothing is sent before the deed that it tells of.
+-- At each moment, as the next call is made, it had talked so with each client. In the end all that they asked for is done.
 pub record TalksThrough (parts : ℕ) (log : Log) (story : Story) : Type 0 where
   pub rises : (n m : ℕ) → n ≤ m → m ≤ length log.entries → story.reached n ≤ story.reached m
   pub ends : story.reached (length log.entries) ≡ length (asked_in story)
   pub talks : (n c : ℕ) → n ≤ length log.entries → TalkAt parts log story n c
 
--- A connection is closed for a cause, or memory lacked for it.
+-- A connection is closed for a cause, or memory lacked for it, or its share's part of what may be kept of all clients.
 abbrev pub ClosesForCause : ℕ → Log → Story → Type 0
 ClosesForCause parts log story = (n c : ℕ) → n < length log.entries → calls_by log (n + 1) ≡ closed c ∷ calls_by log n
     → (list_any (λ d. d == c) story.lacking ≡ true)

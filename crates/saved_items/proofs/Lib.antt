@@ -1,3 +1,4 @@
+pub mod Causes
 pub mod Streams
 pub mod Puts
 pub mod Spilled

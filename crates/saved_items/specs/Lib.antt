@@ -3,6 +3,7 @@ pub mod Blocks
 pub mod Spelling
 pub mod Reading
 pub mod Moves
+pub mod Causes
 pub mod Reader
 pub mod Spiller
 pub mod Laws

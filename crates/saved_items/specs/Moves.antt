@@ -62,21 +62,35 @@ abbrev pub closes : Entry → Bool
 closes (Keeps pair) = false
 closes (Closes closing) = true
 
--- The entry at the front of a known stream was taken.
+-- Where the stream is known, this entry stood at its front.
+abbrev pub IsRead : ℕ → Option Stream → Option Stream → Entry → Type 0
+IsRead close None now entry = ⊤
+IsRead close (Some stream) None entry = ⊥
+IsRead close (Some stream) (Some now) entry = entry_at close stream ≡ Ok (entry, now)
+
+-- The entry at the front of the stream was taken.
 abbrev pub TakesOne : {T : Type 0} → (T → Entry → T → Type 0) → T → T → ℕ → Bool → Option Stream → Option Stream → Type 0
-TakesOne takes old new close closed None now = ⊤
-TakesOne takes old new close closed (Some stream) None = ⊥
-TakesOne takes old new close closed (Some stream) (Some now) = (entry : Entry) × takes old entry new × (closes entry ≡ closed) × (entry_at close stream ≡ Ok (entry, now))
+TakesOne takes old new close closed stream now = (entry : Entry) × takes old entry new × (closes entry ≡ closed) × IsRead close stream now entry
 
--- Nothing was taken, since a known stream has this fault at its front.
+-- The entry at the front of the stream was refused.
+abbrev pub RefusesOne : {T : Type 0} → (T → Entry → T → Type 0) → T → T → ℕ → Option Stream → Option Stream → Type 0
+RefusesOne refuses old new close stream now = (entry : Entry) × refuses old entry new × IsRead close stream now entry
+
+abbrev pub HasFault : ℕ → Option Stream → SavedFault → Type 0
+HasFault close None fault = ⊤
+HasFault close (Some stream) fault = entry_at close stream ≡ Err fault
+
+-- Nothing was taken, since the stream has this fault at its front.
 abbrev pub TakesNone : {T : Type 0} → T → T → ℕ → Option Stream → SavedFault → Type 0
-TakesNone old new close None fault = ⊤
-TakesNone old new close (Some stream) fault = (new ≡ old) × (entry_at close stream ≡ Err fault)
+TakesNone old new close stream fault = (new ≡ old) × HasFault close stream fault
 
--- What was handed on are the entries of a known stream, up to its end or this fault.
+abbrev pub AreEntries : ℕ → ℕ → Option Stream → List Entry → Option SavedFault → Type 0
+AreEntries n close None entries end = ⊤
+AreEntries n close (Some stream) entries end = HasEntries n close stream entries end
+
+-- What was handed on are the entries of the stream, up to its end or this fault.
 abbrev pub HandsOn : {T : Type 0} → (T → Entry → T → Type 0) → T → T → ℕ → ℕ → Option Stream → Option SavedFault → Type 0
-HandsOn takes old new n close None end = ⊤
-HandsOn takes old new n close (Some stream) end = (entries : List Entry) × TakesAll takes old entries new × HasEntries n close stream entries end
+HandsOn takes old new n close stream end = (entries : List Entry) × TakesAll takes old entries new × AreEntries n close stream entries end
 
 -- What a sink took since it had before, and what is held back for the next block, are this content.
 pub record HasPut (before now : Option (List ℕ)) (sum : ℕ) (held content : List ℕ) : Type 0 where

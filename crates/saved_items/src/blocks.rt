@@ -1,6 +1,7 @@
 //! Blocks of one length: content, and behind it the sum of the words of all content up to there.
-ghost use Rattle.std.specs.Prelude.{◌≡◌, ◌<◌, ◌≤◌, ◌==◌, ◌+◌, false, length, take, drop, IfOk};
+ghost use Rattle.std.specs.Prelude.{◌≡◌, ◌<◌, ◌≤◌, ◌==◌, ◌+◌, false, length, take, drop, IfOk, OnErr};
 ghost use Rattle.std.specs.Io.KnownBytes.{Consumes, IsAtEnd};
+ghost use Rattle.outside.specs.Faults.{Rose};
 ghost use Rattle.saved_items.specs.Reading.{sum_after};
 ghost use Rattle.saved_items.specs.Blocks.{content_sum};
 
@@ -29,6 +30,8 @@ fn read_after<S: Source>(source: &mut S, block: &mut [u8], filled: usize) -> Res
     ensures given { IfOk result (λ n. Consumes (S.left source.old) (S.left source.new) (take n (drop filled block.new))) }
     ensures end { IfOk result (λ n. n ≡ 0 → IsAtEnd (S.left source.new)) }
     ensures ended { IfOk result (λ n. S.has_ended source.new ≡ (n == 0)) }
+    ensures cause { OnErr result (Rose (S.faults source.old) (S.faults source.new)) }
+    ensures never_fall { S.faults source.old ≤ S.faults source.new }
 {
     source.read(&mut block[filled..])
 }
@@ -40,6 +43,8 @@ pub(crate) fn read_block<S: Source>(source: &mut S, block: &mut [u8]) -> Result<
     ensures given { IfOk result (λ n. Consumes (S.left source.old) (S.left source.new) (take n block.new)) }
     ensures end { IfOk result (λ n. n < length block.new → IsAtEnd (S.left source.new)) }
     ensures open { IfOk result (λ n. length block.new ≤ n → S.has_ended source.new ≡ false) }
+    ensures cause { OnErr result (Rose (S.faults source.old) (S.faults source.new)) }
+    ensures never_fall { S.faults source.old ≤ S.faults source.new }
 {
     let mut filled = 0;
     while filled < block.len() {

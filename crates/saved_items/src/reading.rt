@@ -1,9 +1,10 @@
 //! What a reader reads: the head, the pairs of each partition and what closes it, and the end.
-ghost use Rattle.std.specs.Prelude.{◌≡◌, ◌≢◌, ◌%◌, ◌^◌, false, IfOk, IfSome, IfNone, OnOk, ◌==◌};
+ghost use Rattle.std.specs.Prelude.{◌≡◌, ◌≢◌, ◌≤◌, ◌%◌, ◌^◌, false, IfOk, IfErr, IfSome, IfNone, OnOk, ◌==◌};
 ghost use Rattle.std.specs.List.{list_all};
 ghost use Rattle.saved_items.specs.Items.{LengthsFit, PairFits, pair_of, entry_of};
+ghost use Rattle.saved_items.specs.Causes.{HasCause};
 ghost use Rattle.saved_items.specs.Reader.{stream_of};
-ghost use Rattle.saved_items.specs.Moves.{Reads, Ends};
+ghost use Rattle.saved_items.specs.Moves.{Reads, Ends, is_of_outside};
 ghost use Rattle.saved_items.specs.Reading.{hashing_in, mode_in, head_in, head_at, lengths_in, closing_in, word_at, texts_at, closing_at, entry_at};
 
 use crate::blocks::CONTENT_LEN;
@@ -38,7 +39,8 @@ fn mode_in(word: u64) -> Option<SavedMode>
 
 // The head in these seven words.
 fn head_in(words: &[u64]) -> Result<Head, SavedFault>
-    ensures { result ≡ head_in words.now }
+    ensures head { result ≡ head_in words.now }
+    ensures of_file { IfErr result (λ fault. is_of_outside fault ≡ false) }
 {
     let [magic, second, kind, k0, k1, mode, partitions] = words else {
         return Err(SavedFault::Head);
@@ -75,6 +77,8 @@ pub fn read_head<S: Source>(
     requires open { S.has_ended source.old ≡ false }
     ensures read { Reads (λ head. head) (stream_of (S.left source.old) reader.old) (stream_of (S.left source.new) reader.new) result head_at }
     ensures open { OnOk result (S.has_ended source.new ≡ false) }
+    ensures cause { IfErr result (HasCause (S.faults source.old) (S.faults source.new) ⊥) }
+    ensures never_fall { S.faults source.old ≤ S.faults source.new }
 {
     let mut bytes = Vec::new(alloc);
     read_bytes(source, reader, 56, &mut bytes)?;
@@ -103,7 +107,8 @@ fn lengths_in(word: u64) -> Option<Lengths>
 
 // The three words behind the one that closes a partition.
 fn closing_in(words: &[u64]) -> Result<Closing, SavedFault>
-    ensures { result ≡ closing_in words.now }
+    ensures closing { result ≡ closing_in words.now }
+    ensures of_file { IfErr result (λ fault. is_of_outside fault ≡ false) }
 {
     let [written, next, until] = words else {
         return Err(SavedFault::Count);
@@ -129,6 +134,8 @@ fn read_word<S: Source>(
     ensures read { Reads (λ word. word) (stream_of (S.left source.old) reader.old)
         (stream_of (S.left source.new) reader.new) result word_at }
     ensures open { OnOk result (S.has_ended source.new ≡ false) }
+    ensures cause { IfErr result (HasCause (S.faults source.old) (S.faults source.new) ⊥) }
+    ensures never_fall { S.faults source.old ≤ S.faults source.new }
 {
     read_bytes(source, reader, 8, room)?;
     let bytes = room.as_slice();
@@ -149,6 +156,8 @@ fn read_texts<S: Source>(
     ensures read { Reads (λ _. pair_of pair.new) (stream_of (S.left source.old) reader.old) (stream_of (S.left source.new) reader.new) result (texts_at lengths) }
     ensures fits { OnOk result (PairFits (pair_of pair.new)) }
     ensures open { OnOk result (S.has_ended source.new ≡ false) }
+    ensures cause { IfErr result (HasCause (S.faults source.old) (S.faults source.new) ⊥) }
+    ensures never_fall { S.faults source.old ≤ S.faults source.new }
 {
     let Some(lengths) = lengths else {
         return Err(SavedFault::Length);
@@ -169,6 +178,8 @@ fn read_closing<S: Source>(
     requires open { S.has_ended source.old ≡ false }
     ensures read { Reads (λ closing. closing) (stream_of (S.left source.old) reader.old) (stream_of (S.left source.new) reader.new) result closing_at }
     ensures open { OnOk result (S.has_ended source.new ≡ false) }
+    ensures cause { IfErr result (HasCause (S.faults source.old) (S.faults source.new) ⊥) }
+    ensures never_fall { S.faults source.old ≤ S.faults source.new }
 {
     read_bytes(source, reader, 24, room)?;
     let mut words = [0u64; 3];
@@ -187,6 +198,8 @@ pub fn read_entry<S: Source>(
     ensures read { Reads (λ closing. entry_of closing (pair_of pair.new)) (stream_of (S.left source.old) reader.old) (stream_of (S.left source.new) reader.new) result (entry_at close) }
     ensures fits { IfOk result (λ closing. IfNone closing (PairFits (pair_of pair.new))) }
     ensures open { OnOk result (S.has_ended source.new ≡ false) }
+    ensures cause { IfErr result (HasCause (S.faults source.old) (S.faults source.new) ⊥) }
+    ensures never_fall { S.faults source.old ≤ S.faults source.new }
 {
     let word = read_word(source, reader, &mut pair.key)?;
     if word % 256 != 0 {
@@ -209,7 +222,9 @@ fn has_zeros_alone(rest: &[u8]) -> bool
 /// The end behind the last partition: zeros to the end of the block, and nothing behind it.
 pub fn read_end<S: Source>(source: &mut S, reader: &mut SavedReader) -> Result<(), SavedFault>
     requires open { S.has_ended source.old ≡ false }
-    ensures { Ends result (stream_of (S.left source.old) reader.old) }
+    ensures ends { Ends result (stream_of (S.left source.old) reader.old) }
+    ensures cause { IfErr result (HasCause (S.faults source.old) (S.faults source.new) ⊥) }
+    ensures never_fall { S.faults source.old ≤ S.faults source.new }
 {
     if reader.at == 0 {
         return Err(SavedFault::Trailing);

@@ -1,5 +1,6 @@
 //! The content of a file, a block at a time.
 ghost use Rattle.std.specs.Prelude.{◌≡◌, ◌<◌, ◌≤◌, ◌++◌, ◌+◌, false, [], vec_len, slice_range, IfErr, OnOk};
+ghost use Rattle.saved_items.specs.Causes.{HasCause};
 ghost use Rattle.saved_items.specs.Moves.{Yields, Stops, Reads};
 ghost use Rattle.saved_items.specs.Reading.{bytes_at};
 ghost use Rattle.saved_items.specs.Reader.{rest_of, stream_of};
@@ -17,6 +18,8 @@ fn load<S: Source>(source: &mut S, reader: &mut SavedReader) -> Result<(), Saved
     ensures begun { OnOk result (reader.new.at ≡ 0) }
     ensures open { OnOk result (S.has_ended source.new ≡ false) }
     ensures stops { IfErr result (λ fault. Stops fault (stream_of (S.left source.old) reader.old)) }
+    ensures cause { IfErr result (HasCause (S.faults source.old) (S.faults source.new) ⊥) }
+    ensures never_fall { S.faults source.old ≤ S.faults source.new }
 {
     let count = read_block(source, reader.block.as_mut_slice())?;
     if count < BLOCK_LEN {
@@ -42,6 +45,8 @@ fn make_ready<S: Source>(source: &mut S, reader: &mut SavedReader) -> Result<(),
     ensures ready { OnOk result (reader.new.at < CONTENT_LEN) }
     ensures open { OnOk result (S.has_ended source.new ≡ false) }
     ensures stops { IfErr result (λ fault. Stops fault (stream_of (S.left source.old) reader.old)) }
+    ensures cause { IfErr result (HasCause (S.faults source.old) (S.faults source.new) ⊥) }
+    ensures never_fall { S.faults source.old ≤ S.faults source.new }
 {
     if reader.at < CONTENT_LEN {
         return Ok(());
@@ -90,6 +95,8 @@ pub(crate) fn read_bytes<S: Source>(
         (stream_of (S.left source.new) reader.new) result (bytes_at count) }
     ensures open { OnOk result (S.has_ended source.new ≡ false) }
     ensures count { OnOk result (vec_len out.new ≡ count) }
+    ensures cause { IfErr result (HasCause (S.faults source.old) (S.faults source.new) ⊥) }
+    ensures never_fall { S.faults source.old ≤ S.faults source.new }
 {
     out.clear();
     while out.len() < count {

@@ -1,7 +1,8 @@
 //! Writes saved items by a stream.
-ghost use Rattle.std.specs.Prelude.{◌≡◌, ◌<◌, ◌≤◌, ◌++◌, [], vec_len, length, take, IfOk, OnOk};
+ghost use Rattle.std.specs.Prelude.{◌≡◌, ◌<◌, ◌≤◌, ◌++◌, [], vec_len, length, take, IfOk, IsErrOf, OnOk};
 ghost use Rattle.std.specs.Int.{w64, to_le_bytes};
 ghost use Rattle.std.specs.Io.KnownBytes.{Appends};
+ghost use Rattle.outside.specs.Faults.{Rose};
 ghost use Rattle.saved_items.specs.Blocks.{content_sum, block_text};
 ghost use Rattle.saved_items.specs.Items.{Keeps, Closes, PairFits, pair_of};
 ghost use Rattle.saved_items.specs.Spelling.{words_text, head_words, mode_word, pair_word};
@@ -15,6 +16,8 @@ use outside::{Sink, write_all};
 // Writes this content, and behind it its sum.
 fn write_summed<K: Sink>(sink: &mut K, content: &mut Vec<u8>, sum: u64) -> Result<(), SpillFault>
     ensures wrote { OnOk result (Appends (K.taken sink.old) (K.taken sink.new) (content.old.items ++ to_le_bytes w64 sum)) }
+    ensures cause { IsErrOf result SpillFault.Failed → Rose (K.faults sink.old) (K.faults sink.new) }
+    ensures never_fall { K.faults sink.old ≤ K.faults sink.new }
 {
     content.extend_from_slice(&sum.to_le_bytes())?;
     write_all(sink, content.as_slice())?;
@@ -34,6 +37,8 @@ fn write_block<K: Sink>(
     ensures sum { IfOk result (λ next. next ≡ content_sum sum content.old.items) }
     ensures empty { content.new.items ≡ [] }
     ensures words { length words.new ≡ CONTENT_WORDS }
+    ensures cause { IsErrOf result SpillFault.Failed → Rose (K.faults sink.old) (K.faults sink.new) }
+    ensures never_fall { K.faults sink.old ≤ K.faults sink.new }
 {
     let next = content_sum(sum, content.as_slice(), words);
     let wrote = write_summed(sink, content, next);
@@ -54,6 +59,8 @@ fn put_front<K: Sink>(
     ensures fits { IfOk result (λ n. n ≤ length bytes.now) }
     ensures puts { IfOk result (λ n. PutsBytes (K.taken sink.old) (K.taken sink.new) spiller.old spiller.new (take n bytes.now)) }
     ensures close { spiller.new.close ≡ spiller.old.close }
+    ensures cause { IsErrOf result SpillFault.Failed → Rose (K.faults sink.old) (K.faults sink.new) }
+    ensures never_fall { K.faults sink.old ≤ K.faults sink.new }
 {
     let count = (CONTENT_LEN - spiller.held.len()).min(bytes.len());
     spiller.held.extend_from_slice(&bytes[..count])?;
@@ -77,6 +84,8 @@ pub(crate) fn put_bytes<K: Sink>(
 ) -> Result<(), SpillFault>
     ensures puts { OnOk result (PutsBytes (K.taken sink.old) (K.taken sink.new) spiller.old spiller.new bytes.now) }
     ensures close { spiller.new.close ≡ spiller.old.close }
+    ensures cause { IsErrOf result SpillFault.Failed → Rose (K.faults sink.old) (K.faults sink.new) }
+    ensures never_fall { K.faults sink.old ≤ K.faults sink.new }
 {
     let mut rest = bytes;
     while !rest.is_empty() {
@@ -91,6 +100,8 @@ pub(crate) fn put_bytes<K: Sink>(
 fn put_words<K: Sink>(sink: &mut K, spiller: &mut Spiller, words: &[u64]) -> Result<(), SpillFault>
     ensures puts { OnOk result (PutsBytes (K.taken sink.old) (K.taken sink.new) spiller.old spiller.new (words_text words.now)) }
     ensures close { spiller.new.close ≡ spiller.old.close }
+    ensures cause { IsErrOf result SpillFault.Failed → Rose (K.faults sink.old) (K.faults sink.new) }
+    ensures never_fall { K.faults sink.old ≤ K.faults sink.new }
 {
     for word in words {
         put_bytes(sink, spiller, &word.to_le_bytes())?;
@@ -121,7 +132,9 @@ fn head_words(head: &Head) -> [u64; 7]
 /// Puts the head, which comes first.
 pub fn put_head<K: Sink>(sink: &mut K, spiller: &mut Spiller, head: &Head) -> Result<(), SpillFault>
     requires { IsFresh spiller.old }
-    ensures { OnOk result (HasSaved (K.taken sink.old) (K.taken sink.new) spiller.new head.now []) }
+    ensures saved { OnOk result (HasSaved (K.taken sink.old) (K.taken sink.new) spiller.new head.now []) }
+    ensures cause { IsErrOf result SpillFault.Failed → Rose (K.faults sink.old) (K.faults sink.new) }
+    ensures never_fall { K.faults sink.old ≤ K.faults sink.new }
 {
     let words = head_words(head);
     put_words(sink, spiller, &words)
@@ -146,7 +159,9 @@ pub fn put_pair<K: Sink>(
     pair: &SavedPair,
 ) -> Result<(), SpillFault>
     requires { PairFits (pair_of pair.now) }
-    ensures { OnOk result (Saves (K.taken sink.old) (K.taken sink.new) spiller.old spiller.new (Keeps (pair_of pair.now))) }
+    ensures saves { OnOk result (Saves (K.taken sink.old) (K.taken sink.new) spiller.old spiller.new (Keeps (pair_of pair.now))) }
+    ensures cause { IsErrOf result SpillFault.Failed → Rose (K.faults sink.old) (K.faults sink.new) }
+    ensures never_fall { K.faults sink.old ≤ K.faults sink.new }
 {
     let word = pair_word(pair);
     put_bytes(sink, spiller, &word.to_le_bytes())?;
@@ -162,7 +177,9 @@ pub fn close_partition<K: Sink>(
     spiller: &mut Spiller,
     closing: Closing,
 ) -> Result<(), SpillFault>
-    ensures { OnOk result (Saves (K.taken sink.old) (K.taken sink.new) spiller.old spiller.new (Closes closing)) }
+    ensures saves { OnOk result (Saves (K.taken sink.old) (K.taken sink.new) spiller.old spiller.new (Closes closing)) }
+    ensures cause { IsErrOf result SpillFault.Failed → Rose (K.faults sink.old) (K.faults sink.new) }
+    ensures never_fall { K.faults sink.old ≤ K.faults sink.new }
 {
     let words = [spiller.close, closing.written, closing.next, closing.until];
     put_words(sink, spiller, &words)?;
@@ -172,7 +189,9 @@ pub fn close_partition<K: Sink>(
 
 /// Puts what is held back, with zeros to the end of its block. The file is whole then.
 pub fn finish<K: Sink>(sink: &mut K, spiller: &mut Spiller) -> Result<(), SpillFault>
-    ensures { OnOk result (Finishes (K.taken sink.old) (K.taken sink.new) spiller.old) }
+    ensures finishes { OnOk result (Finishes (K.taken sink.old) (K.taken sink.new) spiller.old) }
+    ensures cause { IsErrOf result SpillFault.Failed → Rose (K.faults sink.old) (K.faults sink.new) }
+    ensures never_fall { K.faults sink.old ≤ K.faults sink.new }
 {
     if spiller.held.is_empty() {
         return Ok(());

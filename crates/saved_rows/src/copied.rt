@@ -117,6 +117,8 @@ impl Copied {
 impl TakesEntries for Copied {
     ghost takes = { λ _ _ _. ⊤ };
 
+    ghost refuses = { λ _ _ _. ⊤ };
+
     fn pair(&mut self, pair: &SavedPair) -> Result<(), Refused> {
         self.add_pair(pair).map_err(|_| Refused)?;
         put_pair(&mut self.beside, &mut self.spiller, pair).map_err(|_| Refused)

@@ -16,4 +16,4 @@ pub loop-filled-preserved : goal.loop-filled-preserved
 loop-filled-preserved g c =
     let read = c.in_ok-count.ensures in
     let before = c.loop-filled.invariant in
-    (search rules, Consumes-after _ _ _ _ _ _ _ read.front before.1 read.given, search rules)
+    (search rules, Consumes-after _ _ _ _ _ _ _ read.front before.1 read.given, search rules, search rules)

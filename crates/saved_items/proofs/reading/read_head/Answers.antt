@@ -10,7 +10,7 @@ use Rattle.saved_items.proofs.reading.read_head.Goals as goal
 pub returns-clause-read : goal.returns-clause-read
 returns-clause-read g c =
     reads_head (stream_of (g.S.Source.left c.args.source.now) c.args.reader.now) (stream_of (g.S.Source.left c.read_bytes.new.source) c.read_bytes.new.reader) c.read_bytes.new.out.items c.head_in.result
-    c.in_ok-read_bytes.ensures.read (c.head_in.ensures ∙ ap head_in (c.pack.ensures ∙ ap packed c.as_slice.ensures.value))
+    c.in_ok-read_bytes.ensures.read (c.head_in.ensures.head ∙ ap head_in (c.pack.ensures ∙ ap packed c.as_slice.ensures.value))
 
 pub returns-in_err-read_bytes-clause-read : goal.returns-in_err-read_bytes-clause-read
 returns-in_err-read_bytes-clause-read g c =

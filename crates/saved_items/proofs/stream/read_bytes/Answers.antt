@@ -4,6 +4,7 @@ use Rattle.std.proofs.lemmas.List.{append-nil}
 use Rattle.saved_items.specs.declared.fault.SavedFault.TheVariants as faults
 use Rattle.saved_items.specs.Moves.{Yields}
 use Rattle.saved_items.specs.Reader.{rest_of, stream_of}
+use Rattle.saved_items.proofs.Causes.{handed_cause}
 use Rattle.saved_items.proofs.Streams.{yields_trans, yields_rest, yields_reads, yields_none, stops_result, stops_for_memory}
 use Rattle.saved_items.proofs.stream.read_bytes.Goals as goal
 
@@ -23,6 +24,7 @@ loop-source-preserved g c =
     record {
       within = omega (arith, gave.len, gave.most, gave.some, so_far.within);
       yielded = subst (Yields first (stream_of left c.give.new.reader)) (sym gave.out) (yields_trans first (stream_of left reader) (stream_of left c.give.new.reader) out bytes ready given);
+      rises = omega (arith, c.make_ready.ensures.never_fall, so_far.rises);
       unended = made.open;
     }
 
@@ -43,3 +45,8 @@ returns-in_err-give-clause-read g c =
     let first = stream_of (g.S.Source.left c.args.source.now) c.args.reader.now in
     stops_result (λ (u : Unit {0}). c.give.new.out.items) faults.NoMemory c.from_residual-in_err-give.result first first (stream_of (g.S.Source.left c.make_ready.new.source) c.give.new.reader) c.args.count []
     c.from_residual-in_err-give.ensures.1 (yields_none first) (stops_for_memory first) (omega (arith, c.loop-source-test.true))
+
+pub returns-in_err-make_ready-clause-cause : goal.returns-in_err-make_ready-clause-cause
+returns-in_err-make_ready-clause-cause g c =
+    handed_cause (g.S.Source.faults c.args.source.now) (g.S.Source.faults c.loop-source.source) (g.S.Source.faults c.make_ready.new.source) ⊥ ⊥ c.loop-source.invariant.rises (λ no. no)
+    c.in_err-make_ready.field-0.0 c.from_residual.result c.from_residual.ensures.1 c.in_err-make_ready.ensures.cause

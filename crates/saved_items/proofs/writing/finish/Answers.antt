@@ -4,14 +4,14 @@ use Rattle.std.proofs.lemmas.List.{take_all, nil_from_length}
 use Rattle.saved_items.proofs.Spilled.{finishes_none, finishes_held}
 use Rattle.saved_items.proofs.writing.finish.Goals as goal
 
-pub returns-then-is_empty : goal.returns-then-is_empty
-returns-then-is_empty g c =
+pub returns-then-is_empty-clause-finishes : goal.returns-then-is_empty-clause-finishes
+returns-then-is_empty-clause-finishes g c =
     let held = c.args.spiller.now.held in
     let none : held.len ≡ 0 = eqb-true held.len 0 (sym c.is_empty.ensures ∙ c.if-is_empty.true) in
     finishes_none (g.K.Sink.taken c.args.sink.now) c.args.spiller.now (nil_from_length held.items (omega (arith, none, held.ok.0)))
 
-pub returns : goal.returns
-returns g c =
+pub returns-clause-finishes : goal.returns-clause-finishes
+returns-clause-finishes g c =
     let held = c.args.spiller.now.held in
     let zeros = 65528 - held.len in
     let filled = c.resize.new.self in

@@ -11,6 +11,7 @@ loop-rest-preserved g c =
     let rest = c.loop-rest.rest.now in
     let n = c.in_ok-count.count in
     record {
+      rises = omega (arith, c.put_front.ensures.never_fall, c.loop-rest.invariant.rises);
       close = c.put_front.ensures.close ∙ c.loop-rest.invariant.close;
       put = (
         so_far.0 ++ take n rest,

@@ -5,8 +5,8 @@ use Rattle.saved_items.specs.Spiller.{PutsBytes}
 use Rattle.saved_items.proofs.Spilled.{head_saved}
 use Rattle.saved_items.proofs.writing.put_head.Goals as goal
 
-pub returns : goal.returns
-returns g c =
+pub returns-clause-saved : goal.returns-clause-saved
+returns-clause-saved g c =
     let old = g.K.Sink.taken c.args.sink.now in
     let new = g.K.Sink.taken c.put_words.new.sink in
     let before = c.args.spiller.now in

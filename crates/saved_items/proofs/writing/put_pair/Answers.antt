@@ -5,8 +5,8 @@ use Rattle.saved_items.specs.Spiller.{PutsBytes}
 use Rattle.saved_items.proofs.Spilled.{pair_puts, pair_saved}
 use Rattle.saved_items.proofs.writing.put_pair.Goals as goal
 
-pub returns : goal.returns
-returns g c =
+pub returns-clause-saves : goal.returns-clause-saves
+returns-clause-saves g c =
     let pair = pair_of c.args.pair.now in
     let t₀ = g.K.Sink.taken c.args.sink.now in
     let t₁ = g.K.Sink.taken c.put_bytes.new.sink in

@@ -17,6 +17,7 @@ loop-word-preserved g c =
     let s₁ = c.loop-word.spiller in
     let s₂ = c.put_bytes.new.spiller in
     record {
+      rises = omega (arith, c.put_bytes.ensures.never_fall, so_far.rises);
       close = c.put_bytes.ensures.close ∙ so_far.close;
       put = subst (PutsBytes t₀ t₂ s₀ s₂) (sym (words_more words i c.to_le_bytes.result (omega arith) c.to_le_bytes.ensures))
           (Puts_then t₀ t₁ t₂ s₀.sum s₁.sum s₂.sum s₀.held.items s₁.held.items s₂.held.items (words_text (take i words)) c.to_le_bytes.result so_far.put c.in_ok-put_bytes.ensures.puts);

@@ -1,0 +1,6 @@
+pub mod Added
+pub mod Rising
+pub mod Bytes
+pub mod Found
+pub mod Ordered
+pub mod Walked
