@@ -70,9 +70,6 @@ spare_behind o s at link bucket is some = elim (s.chains.links at bucket) [ inl 
 -- the slots of a bucket
 
 module _ (o : OwnerState) (c : ℕ) where
-  pub no_slot : (xs : List ℕ) → Adds (HasItemBelow o 0 c) xs xs
-  no_slot xs = adds_nothing (HasItemBelow o 0 c) xs (λ p h. absurd (let low = h.1 in omega arith))
-
   below_more : (n p : ℕ) → HasItemBelow o n c p → HasItemBelow o (n + 1) c p
   below_more n p h = (h.0, (let low = h.1 in omega arith), h.2, h.3)
 
@@ -163,9 +160,6 @@ abbrev pub HasItemUpTo : OwnerState → ℕ → ℕ → Type 0
 HasItemUpTo o n p = (b : ℕ) × (b < n) × HasItemInChain o b p
 
 module _ (o : OwnerState) where
-  pub no_bucket : Adds (HasItemUpTo o 0) [] []
-  no_bucket = adds_nothing (HasItemUpTo o 0) [] (λ p h. absurd (let low = h.1 in omega arith))
-
   pub one_bucket : (n : ℕ) (xs ys : List ℕ) → Adds (HasItemUpTo o n) [] xs → Adds (HasItemInChain o n) xs ys → Adds (HasItemUpTo o (n + 1)) [] ys
   one_bucket n xs ys so_far adds =
       adds_both (HasItemUpTo o n) (HasItemInChain o n) (HasItemUpTo o (n + 1)) [] xs ys so_far adds

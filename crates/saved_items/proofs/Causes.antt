@@ -1,11 +1,9 @@
 -- Causes, from call to call.
-use Rattle.std.proofs.Common.{◌≡◌, ◌≤◌, ◌⊎◌, ℕ, false, inl, inr, subst, sym, arith}
+use Rattle.std.proofs.Common.{◌≡◌, ◌≤◌, ℕ, inl, inr, subst, sym, arith}
 use Rattle.std.specs.Prelude.{Result, Ok, Err, IsErrAnd, IfErr}
-use Rattle.std.proofs.lemmas.Grind.{common_steps}
 use Rattle.outside.specs.Faults.{Rose}
 use Rattle.saved_items.specs.declared.fault.SavedFault.{SavedFault}
 use Rattle.saved_items.specs.declared.fault.SavedFault.TheVariants as faults
-use Rattle.saved_items.specs.Moves.{is_of_outside}
 use Rattle.saved_items.specs.Causes.{HasCause}
 
 -- a count that rose since later, rose since earlier
@@ -27,14 +25,6 @@ module _ (first now after : ℕ) (P Q : Type 0) (less : first ≤ now) (more : P
   pub same_cause : {X : Type 0} (result : Result X SavedFault) → IfErr result (HasCause now after P) → IfErr result (HasCause first after Q)
   same_cause (Ok x) has = tt
   same_cause (Err e) has = cause_since e has
-
--- a fault of the file needs no other cause
-file_cause : (before after : ℕ) (P : Type 0) (fault : SavedFault) → is_of_outside fault ≡ false → HasCause before after P fault
-file_cause before after P fault is = grind (arith, common_steps)
-
-pub of_file : {X : Type 0} (before after : ℕ) (P : Type 0) (result : Result X SavedFault) → IfErr result (λ f. is_of_outside f ≡ false) → IfErr result (HasCause before after P)
-of_file before after P (Ok x) is = tt
-of_file before after P (Err e) is = file_cause before after P e is
 
 -- who takes entries refused one
 pub refused_cause : {X : Type 0} (before after : ℕ) (P : Type 0) (result : Result X SavedFault) → IsErrAnd result (λ e. e ≡ faults.Refused) → P → IfErr result (HasCause before after P)

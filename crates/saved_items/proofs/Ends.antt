@@ -1,5 +1,5 @@
 -- Whether nothing but zeros is left.
-use Rattle.std.proofs.Common.{◌≡◌, ℕ, suc, ◌+◌, ◌-◌, ◌/◌, ◌<◌, ◌≤◌, Bool, true, false, ltb, eqb, List, [], ◌∷◌, ◌++◌, length, take, drop, refl, sym, ap, subst, ◌∙◌, arith}
+use Rattle.std.proofs.Common.{◌≡◌, ℕ, suc, ◌+◌, ◌-◌, ◌/◌, ◌<◌, ◌≤◌, Bool, true, false, ltb, eqb, List, [], ◌∷◌, ◌++◌, length, take, drop, refl, ap, subst, ◌∙◌, arith}
 use Rattle.std.specs.Prelude.{Option, Some, None, Result, Ok, Err, ◌&&◌}
 use Rattle.std.specs.List.{list_all}
 use Rattle.std.specs.Io.KnownBytes.{Consumes, IsAtEnd}
@@ -9,7 +9,7 @@ use Rattle.saved_items.specs.declared.blocks.TheConstants.{CONTENT_LEN}
 use Rattle.saved_items.specs.declared.fault.SavedFault.{SavedFault}
 use Rattle.saved_items.specs.declared.fault.SavedFault.TheVariants as faults
 use Rattle.saved_items.specs.Blocks.{content_sum}
-use Rattle.saved_items.specs.Reading.{Stream, Stop, AtEnd, Within, OtherSum, with_front, is_at_end, only_zeros, told_sum, blocks_at, stream_at}
+use Rattle.saved_items.specs.Reading.{Stream, AtEnd, Within, OtherSum, with_front, is_at_end, only_zeros, told_sum, blocks_at, stream_at}
 use Rattle.saved_items.specs.Moves.{stream_in, Ends}
 use Rattle.saved_items.proofs.Streams.{stream_empty, stopped}
 use Rattle.saved_items.proofs.Words.{blocks_step, blocks_are}

@@ -8,7 +8,7 @@ use Rattle.mica_words.specs.Packing.{packed}
 use Rattle.saved_items.specs.declared.fault.SavedFault.{SavedFault}
 use Rattle.saved_items.specs.declared.fault.SavedFault.TheVariants as faults
 use Rattle.saved_items.specs.declared.items.Lengths.{Lengths}
-use Rattle.saved_items.specs.Items.{Entry, Keeps, Closes}
+use Rattle.saved_items.specs.Items.{Keeps, Closes}
 use Rattle.saved_items.specs.Reading.{Stream, Stop, stop_fault, bytes_at, word_at, with_rest, head_in, head_at, closing_in, closing_at, lengths_in, texts_at, behind_word, entry_at, ◌>>=◌}
 
 -- more content, and another stop

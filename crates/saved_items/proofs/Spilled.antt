@@ -1,7 +1,6 @@
 -- What was saved, entry by entry.
-use Rattle.std.proofs.Common.{◌≡◌, ℕ, ◌+◌, ◌-◌, ◌<◌, List, [], ◌∷◌, ◌++◌, length, take, get_or, replicate, refl, sym, ap, subst, ◌∙◌, append_assoc, arith}
+use Rattle.std.proofs.Common.{◌≡◌, ℕ, ◌+◌, ◌<◌, List, [], ◌∷◌, ◌++◌, length, take, get_or, replicate, refl, sym, ap, subst, ◌∙◌, append_assoc, arith}
 use Rattle.std.specs.Prelude.{Option}
-use Rattle.std.specs.List.{AllByRecursion}
 use Rattle.std.specs.Io.KnownBytes.{Appends}
 use Rattle.std.proofs.KnownBytes.{Appends-nil}
 use Rattle.std.proofs.lemmas.Grind.{flat_map-append}
@@ -13,7 +12,7 @@ use Rattle.saved_items.specs.declared.items.Closing.{Closing}
 use Rattle.saved_items.specs.Blocks.{content_sum, block_text, blocks_text, joined, FillsBlock}
 use Rattle.saved_items.specs.Items.{Entry, Keeps, Closes, Pair, SavedItems, SavedFits, close_after}
 use Rattle.saved_items.specs.Spelling.{word_text, words_text, head_words, pair_word, entry_text, entries_text, pair_text, items_text, SpellsSaved}
-use Rattle.saved_items.specs.Moves.{HasPut, Puts}
+use Rattle.saved_items.specs.Moves.{HasPut}
 use Rattle.saved_items.specs.Spiller.{IsFresh, HasSaved, Saves, Finishes, PutsBytes, close_behind}
 use Rattle.saved_items.proofs.Puts.{Puts_block, Puts_then}
 

@@ -1,14 +1,14 @@
 -- Entries that are handed on, one behind another.
-use Rattle.std.proofs.Common.{◌≡◌, ℕ, zero, suc, ◌+◌, ◌-◌, ◌%◌, ◌^◌, ◌<◌, Bool, true, false, cond, List, [], ◌∷◌, ◌++◌, length, length-append, append_assoc, refl, sym, ap, ◌∙◌, subst, arith}
+use Rattle.std.proofs.Common.{◌≡◌, ℕ, zero, suc, ◌+◌, ◌-◌, ◌%◌, ◌^◌, ◌<◌, Bool, true, false, cond, List, [], ◌∷◌, ◌++◌, length, length-append, refl, sym, ap, ◌∙◌, subst, arith}
 use Rattle.std.specs.Prelude.{Option, Some, None, Result, Ok, Err, IsErrAnd, IfErr, OnOk}
 use Rattle.std.proofs.lemmas.Grind.{common_steps}
 use Rattle.saved_items.specs.declared.fault.SavedFault.{SavedFault}
 use Rattle.saved_items.specs.declared.fault.SavedFault.TheVariants as faults
 use Rattle.saved_items.specs.declared.items.Closing.{Closing}
 use Rattle.saved_items.specs.Items.{Entry, Keeps, Closes, Pair, entry_of, left_after, close_after}
-use Rattle.saved_items.specs.Reading.{Stream, entry_at, EndsWith, HasEntries}
+use Rattle.saved_items.specs.Reading.{Stream, entry_at, EndsWith}
 use Rattle.saved_items.specs.Moves.{Reads, Ends, IsRead, HasFault, AreEntries, TakesAll, HandsOn, TakesOne, TakesNone, closes, is_of_outside}
-use Rattle.saved_items.specs.Causes.{IsNext, Refuses, TakesMost}
+use Rattle.saved_items.specs.Causes.{IsNext, Refuses}
 
 -- what was read of an entry stood at the front
 entry_read : (close : ℕ) (pair : Pair) (s s' : Option Stream) (o : Option Closing)

@@ -1,5 +1,5 @@
 -- The words of a file that is read to its end: those of each block, and their sum.
-use Rattle.std.proofs.Common.{◌≡◌, ℕ, zero, suc, ◌+◌, ◌*◌, ◌/◌, ◌<◌, ◌≤◌, Bool, true, false, cond, ltb, eqb, List, [], ◌∷◌, ◌++◌, length, take, drop, refl, sym, ap, subst, ◌∙◌, arith, append_assoc}
+use Rattle.std.proofs.Common.{◌≡◌, ℕ, zero, suc, ◌+◌, ◌*◌, ◌/◌, ◌≤◌, Bool, true, false, cond, ltb, eqb, List, [], ◌∷◌, ◌++◌, length, take, drop, refl, sym, ap, subst, ◌∙◌, arith, append_assoc}
 use Rattle.std.specs.Prelude.{Some}
 use Rattle.std.specs.List.{AllByRecursion}
 use Rattle.std.proofs.Math.Seq.{take-add}
@@ -9,7 +9,7 @@ use Rattle.std.proofs.lemmas.List.{length-append, length-drop, length-take, take
 use Rattle.mica_words.specs.Item.{words_for}
 use Rattle.mica_words.specs.Packing.{packed, packed_words, little}
 use Rattle.saved_items.specs.Blocks.{content_sum, sum_behind, FillsBlock, joined}
-use Rattle.saved_items.specs.Reading.{Stream, Stop, AtEnd, Within, OtherSum, with_front, told_sum, sum_after, blocks_at, stream_at}
+use Rattle.saved_items.specs.Reading.{Stream, AtEnd, Within, OtherSum, with_front, told_sum, sum_after, blocks_at, stream_at}
 use Rattle.saved_items.proofs.AgainItems.{little_eight}
 use Rattle.saved_items.proofs.Streams.{stream_told, told_same}
 

@@ -1,5 +1,5 @@
 -- What a file of saved items keeps.
-use Rattle.std.specs.Prelude.{◌≡◌, ℕ, zero, suc, ◌<◌, ◌≤◌, ◌-◌, ◌^◌, Bool, ◌+◌, ◌%◌, List, [], ◌∷◌, length, Option, Some, None, ⊤}
+use Rattle.std.specs.Prelude.{◌≡◌, ℕ, ◌<◌, ◌≤◌, ◌-◌, ◌^◌, Bool, ◌+◌, ◌%◌, List, [], ◌∷◌, length, Option, Some, None, ⊤}
 use Rattle.std.specs.List.{AllByRecursion}
 use Rattle.mica_words.specs.declared.item.TheConstants.{MAX_STORED_LEN}
 use Rattle.mica_words.specs.Item.{StoredFits}

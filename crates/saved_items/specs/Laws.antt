@@ -1,5 +1,5 @@
 -- Laws of files of saved items.
-use Rattle.std.specs.Prelude.{◌≡◌, ℕ, List, [], ◌∷◌, ◌++◌, Option, Some, None}
+use Rattle.std.specs.Prelude.{◌≡◌, ℕ, List, [], ◌∷◌, ◌++◌, Option, None}
 use Rattle.std.specs.List.{AllByRecursion}
 use Rattle.mica_words.specs.Packing.{packed}
 use Rattle.word_sums.specs.Sum.{IsWord}

@@ -1,4 +1,4 @@
-use Rattle.std.proofs.Common.{List, ℕ, take, sym, subst, ◌∙◌, arith}
+use Rattle.std.proofs.Common.{take, sym, subst, ◌∙◌, arith}
 use Rattle.saved_items.specs.Spelling.{words_text}
 use Rattle.saved_items.specs.Spiller.{PutsBytes}
 use Rattle.saved_items.proofs.Puts.{Puts_then}
