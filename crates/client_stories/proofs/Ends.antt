@@ -1,21 +1,18 @@
 -- Why connections were closed, and what those wait for that were not: on the page.
-use Rattle.std.specs.Prelude.{⊤, ◌==◌, ◌||◌, IfSome, slice_get}
-use Rattle.std.specs.List.{AllZip, list_any}
-use Rattle.std.proofs.Common.{◌≡◌, ◌≤◌, ◌<◌, ◌-◌, ◌+◌, ◌⊎◌, inl, inr, ℕ, zero, suc, Bool, true, false, List, [], ◌∷◌, ◌++◌, length, take, drop, Option, Some, None, refl, sym, ap, subst, ◌∙◌, arith}
+use Rattle.std.specs.Prelude.{◌==◌, ◌||◌, IfSome}
+use Rattle.std.specs.List.{list_any}
+use Rattle.std.proofs.Common.{◌≡◌, inl, inr, ℕ, Bool, true, false, List, [], ◌∷◌, ◌++◌, length, Option, Some, None, refl, sym, ap, ◌∙◌, arith}
 use Rattle.std.proofs.lemmas.Bool.{eq-eqb}
 use Rattle.partition_model.specs.declared.options.Options.{Options}
 use Rattle.connections.specs.declared.schedule.Step.{Step}
 use Rattle.connections.specs.declared.schedule.Step.TheVariants.{Opens, TurnsAway, Reports, Happens}
 use Rattle.connections.specs.Connection.{Connection}
-use Rattle.connections.specs.State.{Entry, closed, state_after}
-use Rattle.connections.specs.Log.{Log, received_of, sent_of}
 use Rattle.fronts.specs.Answered.{Answered}
-use Rattle.connection_loop.specs.Given.{Given, given_to}
-use Rattle.connection_loop.specs.Moments.{TalksThrough, IsAmong, IsCaused, IsCaughtUp}
+use Rattle.connection_loop.specs.Moments.{IsAmong}
 use Rattle.connection_loop.specs.Talk.{Talk}
 use Rattle.connection_loop.specs.Closing as loop
 use Rattle.connection_loop.specs.Traffic.{IsToCome}
-use Rattle.memcached_page.specs.Course.{Deed, Done}
+use Rattle.memcached_page.specs.Course.{Deed}
 use Rattle.memcached_requests.specs.Next.{next_of}
 use Rattle.memcached_page.specs.Talk.{Talks, ClosesFor, broke, left, ended, RestsFor, shut, idle, reports}
 use Rattle.client_stories.proofs.Talks.{OnPage, has_left_so, all_done_so}

@@ -1,20 +1,19 @@
 -- One share: the marks of what its front answered, and what its story says on the page.
-use Rattle.std.specs.Prelude.{⊤, ◌==◌, is_some, IfSome, filter_map, flat_map, AllPairs, slice_get}
+use Rattle.std.specs.Prelude.{is_some, IfSome, filter_map, flat_map, AllPairs, slice_get}
 use Rattle.std.specs.List.{AllZip, AllByRecursion, cons_option}
-use Rattle.std.proofs.Common.{◌≡◌, ◌≤◌, ◌<◌, ◌+◌, ◌-◌, ◌⊎◌, inl, inr, ℕ, zero, suc, Bool, true, false, List, [], ◌∷◌, ◌++◌, length, map, filter, take, drop, Option, Some, None, refl, sym, ap, subst, ◌∙◌, append_assoc, arith, length-append}
+use Rattle.std.proofs.Common.{◌≡◌, ◌≤◌, ◌<◌, ◌+◌, ◌-◌, inl, inr, ℕ, zero, suc, false, List, [], ◌∷◌, length, map, filter, take, drop, Option, refl, sym, ap, subst, ◌∙◌, arith, length-append}
 use Rattle.std.proofs.lemmas.List.{length-map}
 use Rattle.partition_model.specs.declared.options.Options.{Options}
 use Rattle.connections.specs.Connection.{Connection}
 use Rattle.connections.specs.State.{Entry, closed, state_after}
 use Rattle.connections.specs.Log.{Log, connections_of, received_of, sent_of, state_of, second_of as told_second}
 use Rattle.fronts.specs.Answered.{Answered}
-use Rattle.command_answers.specs.Seconds.{second_in, IsAt, AreAt}
+use Rattle.command_answers.specs.Seconds.{second_in, AreAt}
 use Rattle.command_answers.specs.Sweeps.{IsSweep}
 use Rattle.connection_loop.specs.Given.{Given, answers_in, given_to}
-use Rattle.connection_loop.specs.Going.{NeverFall, seconds_of}
-use Rattle.connection_loop.specs.Closing.{MayClose, IsSettled}
+use Rattle.connection_loop.specs.Closing.{IsSettled}
 use Rattle.connection_loop.specs.Moments.{TalksWithAll, IsCaused, GivenSince}
-use Rattle.connection_loop.specs.Turns.{Turn, calls_in}
+use Rattle.connection_loop.specs.Turns.{Turn}
 use Rattle.memcached_page.specs.Course.{Done}
 use Rattle.memcached_page.specs.Talk as page
 use Rattle.memcached_page.specs.Talk.{Story, TalksThrough, ClosesForCause, SettlesAll, TellsSeconds, IsTold, TalkAt, calls_by, done_at, asked_in, second_of, is_timed}
@@ -27,7 +26,7 @@ use Rattle.connection_loop.specs.Talk.{Talk}
 use Rattle.client_stories.proofs.Talks.{OnPage}
 use Rattle.client_stories.proofs.Pieces.{IsMark, IsAskedDeed}
 use Rattle.client_stories.proofs.Moments.{first_at, talks_at, rises_at, caused_at, since_at, talk_in, none_yet, same_timed}
-use Rattle.client_stories.proofs.Shares.{woven, pairs, IsDone, At, at, page_at, take_first, drop_first}
+use Rattle.client_stories.proofs.Shares.{woven, pairs, At, at, page_at, take_first, drop_first}
 use Rattle.command_answers.proofs.AskLaws.{all_append}
 use Rattle.connection_loop.specs.Going.{Rise}
 use Rattle.client_stories.proofs.Seconds.{OfTold, given_told, swept_told, pairs_of, seconds_in, rise_of}

@@ -1,7 +1,7 @@
 -- Each answer to a client is one to what it was given for.
-use Rattle.std.specs.Prelude.{⊤, ◌&&◌, if◌then◌else◌}
+use Rattle.std.specs.Prelude.{◌&&◌}
 use Rattle.std.specs.List.{AllZip, AllByRecursion}
-use Rattle.std.proofs.Common.{◌≡◌, ◌≤◌, ℕ, suc, Bool, true, false, cond, List, [], ◌∷◌, ◌++◌, length, map, drop, refl, sym, ap, subst, ◌∙◌, arith}
+use Rattle.std.proofs.Common.{◌≡◌, ℕ, suc, Bool, true, false, cond, List, [], ◌∷◌, map, drop, refl}
 use Rattle.partition_model.specs.declared.options.Options.{Options}
 use Rattle.memcached_commands.specs.declared.asks.Asked.{Asked}
 use Rattle.memcached_commands.specs.Fit.{IsFitAsked}

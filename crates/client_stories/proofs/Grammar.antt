@@ -1,9 +1,9 @@
 -- What bytes ask of keys is fit, whichever their spelling.
-use Rattle.std.specs.Prelude.{⊤, ◌==◌, ◌&&◌, ◌^◌, nat_le, nat_lt, option_map, if◌then◌else◌}
+use Rattle.std.specs.Prelude.{⊤, ◌==◌, ◌^◌, nat_le, nat_lt, option_map}
 use Rattle.std.specs.Int.{w32, w64, from_be_bytes}
 use Rattle.std.specs.List.{AllByRecursion}
 use Rattle.std.specs.Option.{IfSome}
-use Rattle.std.proofs.Common.{◌≡◌, ◌<◌, ◌≤◌, ◌+◌, ◌*◌, ℕ, zero, suc, Bool, true, false, cond, List, [], ◌∷◌, length, map, take, drop, get_or, Option, Some, None, refl, sym, ap, subst, ◌∙◌, arith}
+use Rattle.std.proofs.Common.{◌≡◌, ◌<◌, ◌+◌, ℕ, zero, suc, Bool, true, false, cond, List, [], ◌∷◌, length, map, take, drop, get_or, Option, Some, None, refl, sym, subst, arith}
 use Rattle.std.proofs.lemmas.Bool.{eqb-true, eqb-false, leb-true, leb-false, ltb-true}
 use Rattle.memcached_text.specs.declared.limits.TheConstants.{MAX_TEXT_LEN}
 use Rattle.memcached_text.specs.declared.command.Command.{Command}
@@ -39,10 +39,8 @@ use Rattle.memcached_frames.specs.Opcodes.{fits_key, opcode_of}
 use Rattle.memcached_frames.specs.Frames.{frame_in, fits, frame_by, frame_of, frame_at, frame_next, value_len, dropped, stale_of, echo_of}
 use Rattle.memcached_frames.specs.Header.{frame_len}
 use Rattle.memcached_frames.proofs.FitLaws.{at_fits}
-use Rattle.memcached_meta.specs.declared.fault.MetaFault.{MetaFault}
 use Rattle.memcached_meta.specs.declared.fault.MetaFault.TheVariants as meta_faults
 use Rattle.memcached_meta.specs.declared.line.Verb.{Verb as MetaVerb}
-use Rattle.memcached_meta.specs.declared.line.MetaLine.{MetaLine}
 use Rattle.memcached_meta.specs.declared.next.MetaNext.{MetaNext}
 use Rattle.memcached_meta.specs.declared.next.MetaNext.TheVariants as of_metas
 use Rattle.memcached_meta.specs.Fit.{IsFitMetaNext}
@@ -63,9 +61,7 @@ use Rattle.memcached_text.specs.declared.command.Direction.{Direction}
 use Rattle.memcached_text.specs.declared.command.Direction.TheVariants as directions
 use Rattle.memcached_text.specs.declared.command.Wants.TheVariants.{Numbered}
 use Rattle.memcached_text.specs.declared.limits.TheConstants.{MAX_KEY_LEN}
-use Rattle.memcached_text.specs.declared.reply.Reply.TheVariants as replies
 use Rattle.memcached_commands.specs.declared.asks.Asked.{Asked}
-use Rattle.memcached_commands.specs.declared.ask.Says.TheVariants.{Line}
 use Rattle.memcached_frames.specs.declared.frame.FrameFault.TheVariants.{Unknown, Invalid, TooLarge}
 use Rattle.fronts.specs.Flushes.{begins_with_feed}
 use Rattle.client_stories.specs.Stories.{AreBytes, AreFirst, BytesAskFit}

@@ -1,7 +1,7 @@
 -- All shares of a store, on the page.
-use Rattle.std.specs.Prelude.{⊤, ◌==◌, is_some, IfSome, slice_get, count_by, min, flat_map}
+use Rattle.std.specs.Prelude.{◌==◌, is_some, slice_get, count_by, min}
 use Rattle.std.specs.List.{AllZip, AllByRecursion}
-use Rattle.std.proofs.Common.{◌≡◌, ◌≤◌, ◌<◌, ◌+◌, ◌-◌, ◌^◌, ◌⊎◌, inl, inr, ℕ, zero, suc, Bool, true, false, List, [], ◌∷◌, ◌++◌, length, map, filter, Option, Some, None, refl, sym, ap, subst, ◌∙◌, arith}
+use Rattle.std.proofs.Common.{◌≡◌, ◌≤◌, ◌<◌, ◌+◌, ◌^◌, ℕ, List, [], ◌∷◌, ◌++◌, length, map, filter, Option, Some, None, refl, sym, subst, ◌∙◌, arith}
 use Rattle.std.proofs.lemmas.Option.{same_Some, slice_get_within}
 use Rattle.list_laws.proofs.Places.{element_at}
 use Rattle.outside.specs.Faults.{LAST_COUNT}
@@ -16,13 +16,12 @@ use Rattle.one_order.specs.Order.{OneOrder}
 use Rattle.one_order.proofs.Ordered.{ordered}
 use Rattle.memcached_page.specs.Shelf.{Shelf, empty}
 use Rattle.memcached_page.specs.Course.{Deed, carried, flushed, went, lost, moved, Done, after, IsDeed, IsCourse}
-use Rattle.memcached_page.specs.Kept.{AtEach, LostForCause, KeepsItems, shelf_in}
+use Rattle.memcached_page.specs.Kept.{AtEach, LostForCause, shelf_in}
 use Rattle.memcached_page.specs.Talk.{Story, TalksThrough, ClosesForCause, SettlesAll, TellsSeconds}
 use Rattle.memcached_page.specs.Page.{is_turned_away, part_of, ServesKeyByKey}
-use Rattle.part_courses.specs.Courses.{Served, AreServed}
 use Rattle.part_courses.proofs.Courses.{courses}
 use Rattle.client_stories.specs.Stories.{Talked, ServesClientsOfStore}
-use Rattle.client_stories.proofs.Marks.{Mark, for_client, Marked}
+use Rattle.client_stories.proofs.Marks.{Mark, for_client}
 use Rattle.client_stories.proofs.Pieces.{part, IsMark, IsAskedDeed}
 use Rattle.client_stories.proofs.Facts as share
 use Rattle.client_stories.proofs.Parts as parts

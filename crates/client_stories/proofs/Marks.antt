@@ -1,10 +1,9 @@
 -- What a front answered in its turns, each with what it was given for.
-use Rattle.std.specs.Prelude.{⊤, ◌==◌, is_some}
+use Rattle.std.specs.Prelude.{is_some}
 use Rattle.std.specs.List.{AllByRecursion}
-use Rattle.std.proofs.Common.{◌≡◌, ◌≤◌, ◌<◌, ℕ, Bool, true, false, cond, List, [], ◌∷◌, ◌++◌, length, map, filter, Option, Some, None, refl, sym, ap, subst, ◌∙◌, append-nil, append_assoc, arith}
+use Rattle.std.proofs.Common.{◌≡◌, ℕ, Bool, true, false, List, [], ◌∷◌, ◌++◌, map, filter, Option, Some, None, refl, sym, ap, subst, ◌∙◌, append-nil, append_assoc}
 use Rattle.std.proofs.lemmas.List.{map-append}
 use Rattle.std.proofs.lemmas.List.Elements.{filter-append}
-use Rattle.partition_model.specs.declared.options.Options.{Options}
 use Rattle.fronts.specs.Answered.{Answered}
 use Rattle.command_answers.proofs.AskLaws.{all_append}
 use Rattle.connection_loop.specs.Given.{Given, answers_in}

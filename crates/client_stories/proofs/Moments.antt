@@ -1,17 +1,17 @@
 -- The moments of a log: what had been given to clients by each.
-use Rattle.std.specs.Prelude.{⊤, ◌==◌, if◌then◌else◌}
-use Rattle.std.proofs.Common.{◌≡◌, ◌≢◌, ◌≤◌, ◌<◌, ◌⊎◌, inl, inr, ℕ, zero, suc, Bool, true, false, cond, List, [], ◌∷◌, ◌++◌, length, filter, map, drop, refl, sym, ap, subst, ◌∙◌, append-nil, append_assoc, arith}
+use Rattle.std.specs.Prelude.{◌==◌}
+use Rattle.std.proofs.Common.{◌≡◌, ◌≤◌, ◌<◌, inl, inr, ℕ, zero, suc, Bool, true, false, cond, List, [], ◌∷◌, ◌++◌, length, filter, map, drop, refl, sym, ap, subst, ◌∙◌, append-nil, append_assoc, arith}
 use Rattle.std.proofs.lemmas.Bool.{eq-eqb}
 use Rattle.partition_model.specs.declared.options.Options.{Options}
 use Rattle.connections.specs.declared.schedule.Step.{Step}
 use Rattle.connections.specs.State.{Entry, opened, reported, turned_away, met, second, received, sent, asked, closed}
-use Rattle.connections.specs.Log.{received_of, sent_of, second_of}
+use Rattle.connections.specs.Log.{received_of}
 use Rattle.fronts.specs.Answered.{Answered}
 use Rattle.command_answers.specs.Exchange.{Exchange}
 use Rattle.command_answers.specs.Spells.{Spells, answers_to_all}
 use Rattle.memcached_requests.proofs.NextLaws.{nothing}
 use Rattle.connection_loop.specs.Given.{Given, given_to}
-use Rattle.connection_loop.specs.Moments.{TalksWithOne, TalksWithAll, IsCaused, AreSince, GivenSince, TalksThrough, is_timed as is_told}
+use Rattle.connection_loop.specs.Moments.{TalksWithOne, TalksWithAll, IsCaused, GivenSince, TalksThrough, is_timed as is_told}
 use Rattle.connection_loop.specs.Talk.{Talk}
 use Rattle.memcached_page.specs.Talk.{is_timed}
 

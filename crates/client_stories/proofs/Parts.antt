@@ -1,7 +1,7 @@
 -- The course of each part, and the deeds of each share: the same deeds, by part and by share.
-use Rattle.std.specs.Prelude.{⊤, ◌==◌, is_some, flat_map, slice_get}
-use Rattle.std.specs.List.{AllZip, AllByRecursion, filter_map, cons_option}
-use Rattle.std.proofs.Common.{◌≡◌, ◌≢◌, ◌≤◌, ◌<◌, ◌+◌, ℕ, Bool, true, false, cond, ltb, List, [], ◌∷◌, ◌++◌, length, map, filter, Option, Some, None, inl, inr, refl, sym, ap, subst, ◌∙◌, append_assoc, arith}
+use Rattle.std.specs.Prelude.{◌==◌, is_some, flat_map, slice_get}
+use Rattle.std.specs.List.{AllZip, AllByRecursion, cons_option}
+use Rattle.std.proofs.Common.{◌≡◌, ◌≤◌, ◌<◌, ℕ, Bool, true, false, cond, ltb, List, [], ◌∷◌, ◌++◌, length, map, filter, Option, Some, None, inl, inr, refl, sym, ap, subst, ◌∙◌, arith}
 use Rattle.std.proofs.lemmas.Bool.{eqb-true, ne_eqb, ltb-true, ltb-false}
 use Rattle.std.proofs.lemmas.List.Elements.{filter-append}
 use Rattle.std.proofs.lemmas.Option.{slice_get_cases}
@@ -18,8 +18,7 @@ use Rattle.command_answers.specs.Seconds.{second_in}
 use Rattle.part_courses.specs.Courses.{Served, IsFor, AreServed, deeds_of, done_by, course_of}
 use Rattle.client_stories.proofs.Weave.{zip_of_maps, zip_and, all_filter, Woven, weave}
 use Rattle.client_stories.proofs.Marks.{Mark, for_client}
-use Rattle.client_stories.proofs.Talks.{IsDeedOf}
-use Rattle.client_stories.proofs.Pieces.{part, IsMark, served, IsOwnDeed, IsAskedDeed, AskedIn, IsPiece, piece}
+use Rattle.client_stories.proofs.Pieces.{part, IsMark, served, IsAskedDeed, AskedIn, IsPiece, piece}
 
 -- Lists
 

@@ -1,7 +1,7 @@
 -- What one answer came to: its deeds, and which of them a client asked for.
-use Rattle.std.specs.Prelude.{⊤, ◌==◌, ◌&&◌, is_some, nat_lt, if◌then◌else◌}
+use Rattle.std.specs.Prelude.{◌==◌, ◌&&◌, is_some, nat_lt, if◌then◌else◌}
 use Rattle.std.specs.List.{AllByRecursion}
-use Rattle.std.proofs.Common.{◌≡◌, ◌≤◌, ◌<◌, ◌+◌, ℕ, Bool, true, false, cond, List, [], ◌∷◌, ◌++◌, length, map, filter, Option, Some, None, refl, sym, ap, subst, ◌∙◌, arith}
+use Rattle.std.proofs.Common.{◌≡◌, ◌+◌, ℕ, Bool, true, false, cond, List, [], ◌∷◌, ◌++◌, map, filter, Option, Some, None, refl, sym, ap, ◌∙◌}
 use Rattle.std.proofs.lemmas.Bool.{true≢false}
 use Rattle.mica_words.specs.Hash.{partition_of}
 use Rattle.partition_model.specs.declared.options.Options.{Options}
@@ -10,7 +10,6 @@ use Rattle.partition_model.specs.Run.{RunStep}
 use Rattle.memcached_commands.specs.declared.asks.Asked.{Asked}
 use Rattle.fronts.specs.declared.flushes.Flush.{Flush}
 use Rattle.fronts.specs.Answered.{Answered, wrote, got, changed, kept, partition_in}
-use Rattle.fronts.specs.Changing.{write_by}
 use Rattle.fronts.specs.Flushes.{is_flush, flush_in}
 use Rattle.fronts.specs.Looks.{Look}
 use Rattle.command_answers.specs.Seconds.{second_in, second_asked}

@@ -1,21 +1,19 @@
 -- What the answers to a client were given for, by what it said. It is the same at each later moment.
-use Rattle.std.specs.Prelude.{⊤, ◌&&◌, ◌+◌, flat_map, if◌then◌else◌}
-use Rattle.std.specs.List.{AllZip, AllByRecursion}
-use Rattle.std.proofs.Common.{◌≡◌, ◌≢◌, ◌==◌, ◌≤◌, ◌<◌, ◌⊎◌, inl, inr, ℕ, zero, suc, Bool, true, false, cond, ltb, List, [], ◌∷◌, ◌++◌, length, map, drop, refl, sym, ap, subst, ◌∙◌, append-nil, append_assoc, arith, length-append}
+use Rattle.std.specs.Prelude.{◌&&◌, ◌+◌, flat_map}
+use Rattle.std.proofs.Common.{◌≡◌, ◌==◌, ◌≤◌, ◌<◌, inl, inr, ℕ, suc, Bool, true, false, cond, ltb, List, [], ◌∷◌, ◌++◌, length, map, drop, refl, sym, ap, subst, ◌∙◌, append-nil, append_assoc, arith, length-append}
 use Rattle.std.proofs.lemmas.Bool.{eqb-true, ltb-true, ltb-false}
 use Rattle.std.proofs.lemmas.List.{length-map, map-append, drop-append-le, drop_all}
-use Rattle.mica_words.specs.Hash.{partition_of}
 use Rattle.mica_words.proofs.Hashes.{partition_of-below}
 use Rattle.partition_model.specs.declared.options.Options.{Options}
 use Rattle.memcached_commands.specs.declared.asks.Asked.{Asked}
 use Rattle.memcached_requests.specs.declared.request.Next.{Next}
 use Rattle.memcached_requests.specs.declared.request.Style.{Style}
-use Rattle.memcached_requests.specs.Requests.{asks_in, is_last, len_of}
+use Rattle.memcached_requests.specs.Requests.{asks_in, len_of}
 use Rattle.memcached_requests.proofs.NextLaws.{next_stays, nothing}
 use Rattle.fronts.specs.declared.flushes.Flush.{Flush}
-use Rattle.fronts.specs.Answered.{Answered, wrote, got, changed, kept, partition_in}
+use Rattle.fronts.specs.Answered.{Answered, wrote, got, changed, kept}
 use Rattle.fronts.specs.Flushes.{flush_in}
-use Rattle.command_answers.specs.AskAnswers.{AnswersAsk, AnswersAsks, is_refused, is_set, spoiled, asks_with, asks_by}
+use Rattle.command_answers.specs.AskAnswers.{AnswersAsks, is_refused, is_set, spoiled, asks_by}
 use Rattle.command_answers.specs.FlushAnswers.{FlushesOne, FlushesFrom, flush_at}
 use Rattle.command_answers.specs.Exchange.{Exchange, is_flush_all, flush_due, style_of, asks_to, AnswersBy, AnswersNext, count_of_answers, is_answered}
 use Rattle.command_answers.specs.Spells.{Begins, MayFollow, Spells, answers_to_all}

@@ -1,7 +1,7 @@
 -- The seconds of deeds, by the log of a share.
-use Rattle.std.specs.Prelude.{⊤, ◌==◌, is_some, IfSome, filter_map, flat_map, AllPairs}
-use Rattle.std.specs.List.{AllZip, AllByRecursion, cons_option}
-use Rattle.std.proofs.Common.{◌≡◌, ◌≤◌, ◌<◌, ◌+◌, ◌-◌, ◌⊎◌, inl, inr, ℕ, zero, suc, Bool, true, false, cond, List, [], ◌∷◌, ◌++◌, length, map, take, drop, Option, Some, None, refl, sym, ap, subst, ◌∙◌, append-nil, append_assoc, arith, length-append}
+use Rattle.std.specs.Prelude.{IfSome, filter_map, flat_map, AllPairs}
+use Rattle.std.specs.List.{AllByRecursion, cons_option}
+use Rattle.std.proofs.Common.{◌≡◌, ◌≤◌, ◌+◌, ◌⊎◌, inl, inr, ℕ, suc, List, [], ◌∷◌, ◌++◌, length, drop, Option, Some, None, refl, sym, ap, subst, ◌∙◌, append_assoc, arith, length-append}
 use Rattle.std.proofs.lemmas.List.Elements.{All-from_recursion}
 use Rattle.std.proofs.lemmas.List.Kept.{AllPairs-cons}
 use Rattle.partition_model.specs.declared.options.Options.{Options}
@@ -9,11 +9,11 @@ use Rattle.connections.specs.declared.schedule.Step.{Step}
 use Rattle.connections.specs.State.{Entry, opened, reported, turned_away, met, second, received, sent, asked, closed}
 use Rattle.connections.specs.Log.{second_of as told_second}
 use Rattle.fronts.specs.Answered.{Answered}
-use Rattle.command_answers.specs.Seconds.{second_in, IsAt, AreAt}
+use Rattle.command_answers.specs.Seconds.{second_in, AreAt}
 use Rattle.command_answers.specs.Sweeps.{IsSweep}
 use Rattle.command_answers.proofs.AskLaws.{all_append}
 use Rattle.connection_loop.specs.Given.{Given, answers_in}
-use Rattle.connection_loop.specs.Going.{Rise, NeverFall, seconds_of}
+use Rattle.connection_loop.specs.Going.{Rise}
 use Rattle.connection_loop.specs.Moments.{TalksThrough}
 use Rattle.connection_loop.specs.Turns.{Turn, AreShort, calls_in}
 use Rattle.memcached_page.specs.Course.{Done}

@@ -1,27 +1,26 @@
 -- What the thread of a share answered, each with what it was given for; and its talks on the page.
-use Rattle.std.specs.Prelude.{⊤, ◌==◌, is_some}
-use Rattle.std.specs.List.{AllZip, AllByRecursion}
-use Rattle.std.proofs.Common.{◌≡◌, ◌≤◌, ◌<◌, ℕ, zero, suc, Bool, true, false, cond, List, [], ◌∷◌, ◌++◌, length, map, filter, take, drop, Option, Some, None, refl, sym, ap, subst, ◌∙◌, append-nil, append_assoc, arith, length-append}
+use Rattle.std.specs.Prelude.{◌==◌}
+use Rattle.std.specs.List.{AllZip}
+use Rattle.std.proofs.Common.{◌≡◌, ◌≤◌, ℕ, Bool, true, false, cond, List, [], ◌∷◌, ◌++◌, length, map, filter, take, drop, refl, sym, ap, subst, ◌∙◌, arith}
 use Rattle.std.proofs.lemmas.List.{length-map, map-append}
 use Rattle.std.proofs.lemmas.List.Elements.{filter-append}
 use Rattle.partition_model.specs.declared.options.Options.{Options}
 use Rattle.connections.specs.declared.schedule.Step.{Step}
 use Rattle.connections.specs.State.{Entry}
-use Rattle.connections.specs.Log.{received_of, sent_of, second_of as told_second}
-use Rattle.fronts.specs.Answered.{Answered, partition_in}
-use Rattle.command_answers.specs.Seconds.{second_in}
-use Rattle.command_answers.specs.Spells.{Spells, answers_to_all}
+use Rattle.connections.specs.Log.{received_of, sent_of}
+use Rattle.fronts.specs.Answered.{Answered}
+use Rattle.command_answers.specs.Spells.{Spells}
 use Rattle.connection_loop.specs.Given.{Given, answers_in, given_to}
 use Rattle.connection_loop.specs.Moments.{TalksThrough}
 use Rattle.connection_loop.specs.Talk.{Talk}
-use Rattle.memcached_page.specs.Course.{Deed, Done}
-use Rattle.memcached_page.specs.Talk.{is_for, done_for, second_of}
-use Rattle.part_courses.specs.Courses.{Purpose, IsFor}
+use Rattle.memcached_page.specs.Course.{Done}
+use Rattle.memcached_page.specs.Talk.{is_for, done_for}
+use Rattle.part_courses.specs.Courses.{Purpose}
 use Rattle.client_stories.specs.Stories.{AsksFit}
 use Rattle.client_stories.proofs.Weave.{same_first, Parted, parted, zip_long, ZipParted, zip_parted, Woven, weave}
 use Rattle.client_stories.proofs.Purposes.{purposes_of, stable}
-use Rattle.client_stories.proofs.Talks.{IsDeedOf, AreDeeds, purposes_long, OnPage, on_page}
-use Rattle.client_stories.proofs.Marks.{is_wanted, given_mark}
+use Rattle.client_stories.proofs.Talks.{AreDeeds, purposes_long, OnPage, on_page}
+use Rattle.client_stories.proofs.Marks.{given_mark}
 use Rattle.client_stories.proofs.Fits.{IsFound, found}
 use Rattle.client_stories.proofs.Moments.{received_more, first_at, talks_at, begins_at, talk_in}
 use Rattle.client_stories.proofs.Pieces.{IsAskedDeed}

@@ -1,7 +1,7 @@
 -- What was talked with a client, by answers, is a talk on the page, by deeds.
-use Rattle.std.specs.Prelude.{⊤, ◌&&◌, ◌||◌, not, nat_le, filter_map, flat_map, if◌then◌else◌}
-use Rattle.std.specs.List.{AllZip, list_all, list_any}
-use Rattle.std.proofs.Common.{◌≡◌, ◌≢◌, ◌==◌, ◌≤◌, ◌<◌, ◌⊎◌, inl, inr, ℕ, zero, suc, Bool, true, false, cond, List, [], ◌∷◌, ◌++◌, length, take, drop, map, Option, Some, None, refl, sym, ap, subst, ◌∙◌, append-nil, append_assoc, arith, length-append}
+use Rattle.std.specs.Prelude.{⊤, ◌&&◌, ◌||◌, not, nat_le, filter_map, flat_map}
+use Rattle.std.specs.List.{AllZip, list_all}
+use Rattle.std.proofs.Common.{◌≡◌, ◌==◌, inl, inr, ℕ, suc, Bool, true, false, cond, List, [], ◌∷◌, ◌++◌, length, take, drop, map, Some, refl, sym, ap, subst, ◌∙◌, append-nil, arith, length-append}
 use Rattle.std.proofs.lemmas.List.{length-map}
 use Rattle.std.proofs.Math.Dec.{eqb-suc-zero}
 use Rattle.std.proofs.lemmas.Bool.{le-leb, leb-true, leb-false}
@@ -14,9 +14,7 @@ use Rattle.memcached_commands.specs.declared.ask.Says.TheVariants.{Line}
 use Rattle.memcached_commands.specs.Moments.{found_in}
 use Rattle.memcached_commands.specs.Answers.{no_room}
 use Rattle.memcached_requests.specs.declared.request.Next.{Next}
-use Rattle.memcached_requests.specs.declared.request.Next.TheVariants.{More}
 use Rattle.memcached_requests.specs.declared.request.Style.{Style}
-use Rattle.memcached_requests.specs.Next.{next_of}
 use Rattle.memcached_requests.specs.Replies.{said_text}
 use Rattle.memcached_requests.specs.Requests.{asks_in, is_last, len_of}
 use Rattle.memcached_stats.specs.Stats.{Told}
@@ -25,15 +23,15 @@ use Rattle.fronts.specs.declared.flushes.Flush.{Flush}
 use Rattle.fronts.specs.Answered.{Answered, wrote, got, changed, kept, accepts, partition_in}
 use Rattle.command_answers.specs.Seconds.{second_in}
 use Rattle.command_answers.specs.AskAnswers.{AnswersAsk, AnswersAsks, is_refused, is_set, spoiled, asks_with, asks_by, asks_text, said_of}
-use Rattle.command_answers.specs.FlushAnswers.{FlushesOne, FlushesFrom, flush_at}
+use Rattle.command_answers.specs.FlushAnswers.{FlushesFrom, flush_at}
 use Rattle.command_answers.specs.Exchange as front
 use Rattle.command_answers.specs.Exchange.{is_flush_all, flush_due, style_of, plain_text, AnswersBy, keyed_text}
-use Rattle.command_answers.specs.Spells.{Begins, MayFollow, MayGoOn, Spells, answers_to_all, due_to_all}
+use Rattle.command_answers.specs.Spells.{MayGoOn, Spells, answers_to_all, due_to_all}
 use Rattle.memcached_page.specs.Course.{Deed, carried, flushed, went, lost, moved, is_no_room}
 use Rattle.memcached_page.specs.Exchange.{Exchange, refuses, asks_to, CarryAsks, FlushParts, CarryOut, is_done, said_in, took, saids_text, flush_text, text_for, due_to}
 use Rattle.memcached_page.specs.Talk.{ReadAs, MayBeFollowed, due_in_all, wants_end, Talks}
 use Rattle.connection_loop.specs.Talk.{Talk, has_left}
-use Rattle.part_courses.specs.Courses.{Purpose, asks, flushes, sweeps}
+use Rattle.part_courses.specs.Courses.{Purpose, asks, flushes}
 use Rattle.part_courses.proofs.Refusals.{has_room}
 use Rattle.part_courses.proofs.Written.{refused_line}
 use Rattle.client_stories.proofs.Purposes.{asked_of, flush_by, purposes_by, purposes_in, purposes_of}

@@ -1,6 +1,6 @@
 -- From the contract of a server to its shares.
 use Rattle.std.specs.Prelude.{Result, Ok, Err, IfSome, option_map, sum, slice_get, codes}
-use Rattle.std.proofs.Common.{◌≡◌, ℕ, ◌+◌, ◌^◌, ◌<◌, ◌≤◌, ◌⊎◌, inl, inr, List, [], ◌∷◌, ◌++◌, length, map, Option, Some, None, refl, sym, ap, subst, ◌∙◌, append-nil, arith}
+use Rattle.std.proofs.Common.{◌≡◌, ℕ, ◌+◌, ◌^◌, ◌<◌, ◌≤◌, inl, inr, List, [], ◌∷◌, ◌++◌, length, map, Option, Some, None, refl, sym, ap, subst, ◌∙◌, append-nil, arith}
 use Rattle.std.proofs.lemmas.List.Sums.{get_or-le-sum_by}
 use Rattle.std.proofs.lemmas.Option.{same_Some, slice_get_within, get_or_from_slice_get}
 use Rattle.list_laws.proofs.Places.{element_at}
@@ -23,7 +23,7 @@ use Rattle.locked_server.specs.declared.service.Service.{Service as LockedServic
 use Rattle.locked_server.specs.declared.stop.Stop.{Stop}
 use Rattle.locked_server.specs.declared.stop.Stop.TheVariants.{Refused, Unbound, Unheard, Unannounced, Fault}
 use Rattle.locked_server.specs.Filled.{origin_of}
-use Rattle.locked_server.specs.Streams.{ListenFacts, ServesClients, ServesFrom, AreStreams, counted_by_all, others_of, with_shares}
+use Rattle.locked_server.specs.Streams.{ServesClients, ServesFrom, others_of, with_shares}
 use Rattle.locked_server.specs.Causes.{HasCause, IsCauseOfStop}
 use Rattle.daemon_words.specs.DaemonWords.{Service}
 use Rattle.server_words.specs.Output.{SinkFacts, with_line_feed}
