@@ -22,7 +22,7 @@ use crate::writing::{put, put_at_tail};
 use mica_words::item_size;
 use outside::NoMemory;
 use partition_model::{Answer, ItemBuf, Op, Outcome, has_room};
-use partition_words::{LendPartition, LendWords, OwnerWords, Partition};
+use partition_words::{HearPartition, HearWords, LendPartition, LendWords, OwnerWords, Partition};
 
 /// A partition over an owner's words, with its stamp and the number of accepted writes at hand.
 #[derive(Drop)]
@@ -179,5 +179,11 @@ impl<W: LendWords> LendPartition for CachePartition<W> {
 
     fn meet(&mut self, seat: W::Reader) {
         self.words.meet(seat);
+    }
+}
+
+impl<W: HearWords> HearPartition for CachePartition<W> {
+    fn hear(&mut self, note: W::Note) {
+        self.words.hear(note);
     }
 }

@@ -17,7 +17,7 @@ use locked_server::{FilledPart, lend_hand, lock_parts, open_parts};
 use mica_words::{Hashing, key_fits, stored_fits};
 use partition_model::{Answer, Change, ItemBuf, Mode, Op, Options, Outcome};
 use partition_table::{Note, OwnerSeat, ReaderSeat};
-use partition_words::LendPartition;
+use partition_words::HearPartition;
 use std::alloc::Global;
 use std::marker::Brand;
 use std::process::Abort;
@@ -228,7 +228,7 @@ pub(crate) fn count_up<F: Changes + Drop>(front: F, room: Room) -> F
 pub(crate) fn front_of<
     'a,
     J: ServerPlan,
-    P: LendPartition<Reader = ReaderSeat, Note = Note> + Drop,
+    P: HearPartition<Reader = ReaderSeat, Note = Note> + Drop,
     R: Wait,
 >(
     rt: &'a R,
@@ -252,7 +252,7 @@ pub(crate) fn front_of<
 fn change_by_two<
     J: ServerPlan + Send + Sync,
     W: Abort + AllocGlobal + Threads + Wait + Sync,
-    P: OnTable + LendPartition<Reader = ReaderSeat, Note = Note> + Drop + Send,
+    P: OnTable + HearPartition<Reader = ReaderSeat, Note = Note> + Drop + Send,
 >(rt: &W, options: &Options, rows: &[Row<'_>], parts: Vec<FilledPart<P>>) -> Result<(), Fail>
     requires notes { NotesAre P.noted P.note_home note_state note_home }
     requires valid { IsPossible options.now }
@@ -286,7 +286,7 @@ fn change_by_two<
 }
 
 // Opens one empty partition of the options.
-fn open_and_change<P: OnTable + LendPartition<Reader = ReaderSeat, Note = Note> + Drop + Send>(
+fn open_and_change<P: OnTable + HearPartition<Reader = ReaderSeat, Note = Note> + Drop + Send>(
     rt: &(impl Abort + AllocGlobal + Threads + Wait + Sync),
     options: &Options,
     rows: &[Row<'_>],

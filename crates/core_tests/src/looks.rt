@@ -15,7 +15,7 @@ use locked_server::{FilledPart, lend_hand, lock_parts, open_parts};
 use mica_words::{Hashing, key_fits, stored_fits};
 use partition_model::{Answer, Change, ItemBuf, Mode, Op, Options};
 use partition_table::{Note, OwnerSeat, ReaderSeat};
-use partition_words::LendPartition;
+use partition_words::HearPartition;
 use std::marker::Brand;
 use std::process::Abort;
 use std::sync::Wait;
@@ -141,7 +141,7 @@ fn look_in_turn<R: Abort + AllocGlobal, F: Changes>(
 fn look_while_held<
     R: Abort + Wait,
     J: ServerPlan,
-    P: LendPartition<Reader = ReaderSeat, Note = Note> + Drop,
+    P: HearPartition<Reader = ReaderSeat, Note = Note> + Drop,
     F: Changes,
 >(rt: &R, lock: &PartitionLock<J, P>, front: &mut F, room: &mut Room)
     requires { 0 < F.left front.old }
@@ -156,7 +156,7 @@ fn look_while_held<
 fn look_beside<
     R: Abort + AllocGlobal + Wait,
     J: ServerPlan,
-    P: LendPartition<Reader = ReaderSeat, Note = Note> + Drop,
+    P: HearPartition<Reader = ReaderSeat, Note = Note> + Drop,
     F: Changes,
 >(rt: &R, lock: &PartitionLock<J, P>, one: &mut F, two: &mut F, room: &mut Room) -> Result<(), Fail>
     requires one { 0 < F.left one.old }
@@ -200,7 +200,7 @@ fn look_often<F: Changes + Drop>(front: F, room: Room) -> bool
 fn look_by_two<
     J: ServerPlan + Send + Sync,
     W: Abort + AllocGlobal + Threads + Wait + Sync,
-    P: OnTable + LendPartition<Reader = ReaderSeat, Note = Note> + Drop + Send,
+    P: OnTable + HearPartition<Reader = ReaderSeat, Note = Note> + Drop + Send,
 >(rt: &W, options: &Options, parts: Vec<FilledPart<P>>) -> Result<(), Fail>
     requires notes { NotesAre P.noted P.note_home note_state note_home }
     requires valid { IsPossible options.now }
@@ -234,7 +234,7 @@ fn look_by_two<
 }
 
 // Opens one empty partition of the options.
-fn open_and_look<P: OnTable + LendPartition<Reader = ReaderSeat, Note = Note> + Drop + Send>(
+fn open_and_look<P: OnTable + HearPartition<Reader = ReaderSeat, Note = Note> + Drop + Send>(
     rt: &(impl Abort + AllocGlobal + Threads + Wait + Sync),
     options: &Options,
 ) -> Result<(), Fail>

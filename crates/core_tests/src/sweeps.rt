@@ -14,7 +14,7 @@ use locked_server::{FilledPart, lend_hand, lock_parts, open_parts};
 use mica_words::{key_fits, stored_fits};
 use partition_model::{Answer, ItemBuf, Op, Options, Outcome};
 use partition_table::{Note, OwnerSeat, ReaderSeat};
-use partition_words::LendPartition;
+use partition_words::HearPartition;
 use std::marker::Brand;
 use std::process::Abort;
 use std::sync::Wait;
@@ -94,7 +94,7 @@ fn what_is_over_goes<R: Abort + AllocGlobal, F: Glances>(rt: &R, front: &mut F) 
 fn sweep_by_one<
     J: ServerPlan + Send + Sync,
     W: Abort + AllocGlobal + Threads + Wait + Sync,
-    P: OnTable + LendPartition<Reader = ReaderSeat, Note = Note> + Drop + Send,
+    P: OnTable + HearPartition<Reader = ReaderSeat, Note = Note> + Drop + Send,
 >(rt: &W, options: &Options, parts: Vec<FilledPart<P>>) -> Result<(), Fail>
     requires notes { NotesAre P.noted P.note_home note_state note_home }
     requires valid { IsPossible options.now }
@@ -113,7 +113,7 @@ fn sweep_by_one<
 }
 
 // Opens one empty partition of the options.
-fn open_and_sweep<P: OnTable + LendPartition<Reader = ReaderSeat, Note = Note> + Drop + Send>(
+fn open_and_sweep<P: OnTable + HearPartition<Reader = ReaderSeat, Note = Note> + Drop + Send>(
     rt: &(impl Abort + AllocGlobal + Threads + Wait + Sync),
     options: &Options,
 ) -> Result<(), Fail>

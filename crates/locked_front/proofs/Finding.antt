@@ -6,6 +6,8 @@ use Rattle.list_laws.proofs.Places.{set_elsewhere, set_here, set_cases}
 use Rattle.mica_words.specs.Hash.{hash_of, hash_partition, partition_of}
 use Rattle.mica_words.proofs.Hashes.{partition_of_hash, partition_of-below}
 use Rattle.partition_model.specs.declared.options.Options.{Options}
+use Rattle.partition_words.specs.declared.shape.Shape.{Shape}
+use Rattle.partition_table.specs.Seats.{reader_state}
 use Rattle.partition_model.specs.declared.write.Answer.{Answer}
 use Rattle.partition_model.specs.declared.write.Outcome.{Outcome}
 use Rattle.partition_model.specs.declared.write.Write.{Write}
@@ -43,6 +45,16 @@ pub count_few : (outcome : Option Outcome) → count_of outcome ≤ 1
 count_few None = omega arith
 count_few (Some outcome) = omega arith
 
+-- what comes of a part by the number of a lock comes of it by the place
+pub wrote_at : {plan : Plan} {lock at : ℕ} {old new : LockedPart} {write : Write} {outcome : Outcome} {stamp : ℕ} → lock ≡ at
+    → PartWrites plan lock old write outcome stamp new → PartWrites plan at old write outcome stamp new
+wrote_at {plan = plan} {old = old} {new = new} {write = write} {outcome = outcome} {stamp = stamp} is did = subst (λ n. PartWrites plan n old write outcome stamp new) is did
+
+pub changed_at : {plan : Plan} {lock at second : ℕ} {key : List ℕ} {needs : Bool} {becoming : When → Option (List ℕ) → Becoming} {old new : LockedPart} {changed : Changed} {buffer : List ℕ} → lock ≡ at
+    → PartChanges plan lock second key needs becoming old changed buffer new → PartChanges plan at second key needs becoming old changed buffer new
+changed_at {plan = plan} {second = second} {key = key} {needs = needs} {becoming = becoming} {old = old} {new = new} {changed = changed} {buffer = buffer} is did =
+    subst (λ n. PartChanges plan n second key needs becoming old changed buffer new) is did
+
 module _ {plan : Plan} {front view : LockedView} {key : List ℕ} {at : ℕ} {part : LockedPart} (finds : FindsPart plan front view key at part) where
   found_part : IsPartOf plan at front.number part
   found_part = finds.lawful.each at part finds.here
@@ -50,6 +62,13 @@ module _ {plan : Plan} {front view : LockedView} {key : List ℕ} {at : ℕ} {pa
   -- as the part's own calls ask for it
   pub is_part : IsPartOf plan at part.taker.number part
   is_part = subst (λ n. IsPartOf plan at n part) (sym found_part.taker) found_part
+
+  -- a key is hashed for it as for the front
+  pub hashed_by : {hash : ℕ} → hash ≡ hash_of front.options.hashing key → hash ≡ hash_of (reader_state part.seat).shape.hashing key
+  hashed_by is = is ∙ ap (λ (o : Options). hash_of o.hashing key) finds.lawful.options_are ∙ ap (λ (s : Shape). hash_of s.hashing key) (sym found_part.shape)
+
+  pub is_part_of : {lock : ℕ} → lock ≡ at → IsPartOf plan lock part.taker.number part
+  is_part_of is = subst (λ n. IsPartOf plan n part.taker.number part) (sym is) is_part
 
   module _ (new : LockedPart) (still : IsPartOf plan at part.taker.number new) where
     abbrev parts_after : List LockedPart

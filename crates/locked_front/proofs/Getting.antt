@@ -3,6 +3,8 @@ use Rattle.std.proofs.Common.{◌≡◌, ℕ, ◌+◌, ◌*◌, ◌≤◌, Bool,
 use Rattle.std.proofs.lemmas.Bool.{leb-true, ltb-false}
 use Rattle.std.proofs.lemmas.Option.{same_Some}
 use Rattle.partition_model.specs.declared.write.Answer.{Answer}
+use Rattle.partition_model.specs.declared.write.Outcome.{Outcome}
+use Rattle.partition_model.specs.declared.write.Write.{Write}
 use Rattle.partition_model.specs.Answer.{IsAnswer}
 use Rattle.partition_model.specs.History.{History, IsPrefix, stamp_of, writes_to_bucket}
 use Rattle.partition_model.specs.Run.{IsAnswerAt}
@@ -12,7 +14,8 @@ use Rattle.partition_words.specs.declared.reader.ReaderState.{ReaderState}
 use Rattle.partition_words.specs.Shape.{options_of}
 use Rattle.partition_words.specs.Joins.{longer, note_of, told}
 use Rattle.partition_words.proofs.Prefixes.{prefix_same, prefix_then}
-use Rattle.partition_table.specs.Seats.{reader_state, reader_home}
+use Rattle.partition_table.specs.declared.reader.Note.{Note}
+use Rattle.partition_table.specs.Seats.{reader_state, reader_home, note_state, note_home}
 use Rattle.optimistic_get.specs.declared.getting.Got.{Got}
 use Rattle.optimistic_get.specs.declared.getting.Got.TheVariants as gots
 use Rattle.optimistic_get.specs.Gets.{AnswersGet, IsAnsweredAt, TriesMade}
@@ -21,7 +24,7 @@ use Rattle.fronts.specs.declared.changing.Changed.{Changed}
 use Rattle.fronts.specs.declared.changing.When.{When}
 use Rattle.fronts.specs.Flushes.{flushed_at, waits_at, flushes_in}
 use Rattle.fronts.specs.Looks.{Look, when_after}
-use Rattle.fronts.specs.Session.{Session, Keeps}
+use Rattle.fronts.specs.Session.{Session, Writes, Keeps}
 use Rattle.fronts.specs.SeatSession.{session_at}
 use Rattle.fronts.specs.Changing.{Becoming, OnlyGets, ComesTo, DoesWrite, write_for, count_of}
 use Rattle.fronts.proofs.FlushLaws.{unmoved}
@@ -31,8 +34,8 @@ use Rattle.locked_front.specs.declared.counts.HistoryCounts.{HistoryCounts}
 use Rattle.locked_front.specs.declared.part.LockedPart.{LockedPart}
 use Rattle.locked_front.specs.Plan.{Plan}
 use Rattle.locked_front.specs.Counts.{counts_after, when_by}
-use Rattle.locked_front.specs.Owned.{run_step}
-use Rattle.locked_front.specs.Parts.{IsPartOf, PartChanges, PartRests, PartGets, answer_in, session_of}
+use Rattle.locked_front.specs.Owned.{IsNoteOf, run_step}
+use Rattle.locked_front.specs.Parts.{IsPartOf, PartWrites, PartChanges, PartRests, PartGets, answer_in, session_of}
 use Rattle.locked_front.proofs.Telling.{tells_look}
 
 -- Tries that are told nowhere
@@ -69,9 +72,9 @@ found_by before after bucket tries key answer stamp buffer (gots.Again first las
 pub gets_by : (old new : LockedPart) (before after : ReaderState) (bucket tries : ℕ) (key : List ℕ) (answer : Answer) (stamp epoch : ℕ) (buffer : List ℕ) (got : Got)
     → before ≡ note_of (reader_state old.seat) → AnswersGet before bucket tries key got buffer after → answer_in got ≡ Some (answer, stamp)
     → 2 * writes_to_bucket (options_of after.shape) after.seen 0 ≤ epoch + 1 → nat_le epoch (2 * old.counts.in_first) ≡ true
-    → reader_state new.seat ≡ told (reader_state old.seat) (note_of after) → reader_home new.seat ≡ reader_home old.seat → new.taker ≡ old.taker → new.last ≡ stamp → new.newest ≡ stamp
+    → reader_state new.seat ≡ told (reader_state old.seat) (note_of after) → reader_home new.seat ≡ reader_home old.seat → new.taker ≡ old.taker → new.last ≡ stamp
     → new.counts ≡ old.counts → PartGets old key answer stamp buffer new
-gets_by old new before after bucket tries key answer stamp epoch buffer got anew answers is most all goes home taker last newest counts =
+gets_by old new before after bucket tries key answer stamp epoch buffer got anew answers is most all goes home taker last counts =
     let found = found_by before after bucket tries key answer stamp buffer got answers is in
     let grows : IsPrefix (reader_state old.seat).seen after.seen = subst (λ (r : ReaderState). IsPrefix r.seen after.seen) anew found.made.seen in
     let seen : (reader_state new.seat).seen ≡ after.seen = ap (λ (r : ReaderState). r.seen) goes ∙ longer_begun _ _ grows in
@@ -82,7 +85,6 @@ gets_by old new before after bucket tries key answer stamp epoch buffer got anew
       home = home;
       taker = taker;
       last = last;
-      newest = newest;
       counts = counts;
       shape = ap (λ (r : ReaderState). r.shape) goes;
       seen = subst (IsPrefix (reader_state old.seat).seen) (sym seen) grows;
@@ -105,8 +107,7 @@ module _ (plan : Plan) (number : ℕ) (old mid : LockedPart) (part : IsPartOf pl
     shape = ap (λ (r : ReaderState). r.shape) rests.seat ∙ part.shape;
     book = ap (λ (t : TakerView Step). t.table) rests.taker ∙ part.book;
     taker = refl;
-    newest = rests.newest ∙ part.newest ∙ ap (λ (r : ReaderState). stamp_of plan.options r.seen) (sym rests.seat);
-    last = omega (arith, rests.last, rests.newest, part.last);
+    last = let same = ap (λ (r : ReaderState). stamp_of plan.options r.seen) rests.seat in omega (arith, rests.last, same, part.last);
     counts = record {
       history = part.counts.history;
       counted = rests.counts ∙ part.counts.counted;
@@ -115,6 +116,14 @@ module _ (plan : Plan) (number : ℕ) (old mid : LockedPart) (part : IsPartOf pl
   }
 
   -- what comes of the part afterwards comes of it
+  pub writes_from : {write : Write} {outcome : Outcome} {stamp : ℕ} (new : LockedPart) → PartWrites plan number mid write outcome stamp new → PartWrites plan number old write outcome stamp new
+  writes_from {write = write} {outcome = outcome} {stamp = stamp} new did = record {
+    still = subst (λ n. IsPartOf plan number n new) (ap (λ (t : TakerView Step). t.number) rests.taker) did.still;
+    taken = did.taken ∙ ap (λ (t : TakerView Step). length t.mine + 1) rests.taker;
+    written = subst (λ (s : Session). Writes plan.options false s (record { write = write; outcome = outcome; stamp = stamp }) (session_of new))
+        (λ i. session_at (rests.seat i) (map run_step (rests.taker i).mine) (rests.last i)) did.written;
+  }
+
   pub changes_from : {second : ℕ} {key : List ℕ} {needs : Bool} {becoming : When → Option (List ℕ) → Becoming} {changed : Changed} {buffer : List ℕ} (new : LockedPart)
       → PartChanges plan number second key needs becoming mid changed buffer new → PartChanges plan number second key needs becoming old changed buffer new
   changes_from {second = second} {key = key} {needs = needs} {becoming = becoming} {changed = changed} {buffer = buffer} new did = record {
@@ -151,8 +160,7 @@ module _ (plan : Plan) (number : ℕ) (old new : LockedPart) (key : List ℕ) (a
     shape = looks.shape ∙ part.shape;
     book = ap (λ (t : TakerView Step). t.table) looks.taker ∙ part.book;
     taker = ap (λ (t : TakerView Step). t.number) looks.taker;
-    newest = looks.newest ∙ at.0;
-    last = omega (arith, looks.last, looks.newest);
+    last = omega (arith, looks.last, at.0);
     counts = record { history = counted; counted = looks.counts ∙ part.counts.counted; seen = begins };
   }
 
@@ -180,7 +188,7 @@ module _ (plan : Plan) (number : ℕ) (old new : LockedPart) (key : List ℕ) (a
       newest = looks.seen;
       looked = record { when = refl; value = at.1 };
       done = subst (IsPrefix (reader_state old.seat).done) (sym looks.done) (prefix_same (reader_state old.seat).done);
-      order = let up = prefix_rises plan.options (reader_state old.seat).seen seen looks.seen in omega (arith, up, part.last, part.newest, at.0);
+      order = let up = prefix_rises plan.options (reader_state old.seat).seen seen looks.seen in omega (arith, up, part.last, at.0);
       last = looks.last;
       told = tells_look (reader_state old.seat) (reader_state new.seat) [] (ap (λ (t : TakerView Step). map run_step t.mine) looks.taker) looks.tried (looks.fails ∙ sym (append-nil (reader_state old.seat).fails)) looks.closed;
     }
@@ -198,3 +206,14 @@ module _ (plan : Plan) (number : ℕ) (old new : LockedPart) (key : List ℕ) (a
         does = subst (λ (b : Becoming). DoesWrite plan.options false (session_of old) key (write_for key looks.value b) None stamp look (session_of new)) (sym (reads look.when looks.value)) keeps;
       };
     }
+
+-- A note of a part, which rests
+
+pub is_note : (plan : Plan) (number : ℕ) (old : LockedPart) (note : Note) → IsPartOf plan number old.taker.number old → note_state note ≡ note_of (reader_state old.seat) → note_home note ≡ reader_home old.seat
+    → IsNoteOf plan number note
+is_note plan number old note part is at_home = record { home = at_home ∙ part.home; closed = ap (λ (r : ReaderState). r.closed) is }
+
+-- what was written before has all that the part's seat has seen
+pub seen_before : (old mid : LockedPart) (note : Note) (before : History) → PartRests old mid → note_state note ≡ note_of (reader_state old.seat) → IsPrefix (note_state note).seen before
+    → IsPrefix (reader_state mid.seat).seen before
+seen_before old mid note before rests is begins = subst (λ h. IsPrefix h before) (ap (λ (r : ReaderState). r.seen) is ∙ ap (λ (r : ReaderState). r.seen) (sym rests.seat)) begins

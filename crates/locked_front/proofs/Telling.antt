@@ -11,13 +11,13 @@ use Rattle.partition_model.specs.Answer.{IsAnswer}
 use Rattle.partition_model.specs.Write.{is_accepted}
 use Rattle.partition_model.specs.History.{History, IsPrefix, IsCut, stamp_of}
 use Rattle.partition_model.specs.Run.{RunStep, history_of}
-use Rattle.partition_model.proofs.Rises.{prefix_rises, proper_prefix_lower}
+use Rattle.partition_model.proofs.Rises.{prefix_rises}
 use Rattle.partition_words.specs.declared.state.Failure.{Failure}
 use Rattle.partition_words.specs.declared.reader.ReaderState.{ReaderState}
 use Rattle.partition_words.specs.Shape.{options_of}
 use Rattle.partition_words.specs.ReaderState.{stamped}
 use Rattle.partition_words.specs.Joins.{told}
-use Rattle.partition_words.proofs.Prefixes.{prefix_same, prefix_then, longer_as}
+use Rattle.partition_words.proofs.Prefixes.{prefix_same, prefix_then}
 use Rattle.partition_table.specs.Seats.{reader_state, reader_home, note_state, note_home}
 use Rattle.optimistic_get.specs.declared.getting.Got.{Got}
 use Rattle.optimistic_get.specs.declared.getting.Got.TheVariants.{Hit as GotHit, Miss as GotMiss}
@@ -38,44 +38,28 @@ use Rattle.locked_front.specs.declared.part.LockedPart.{LockedPart}
 use Rattle.locked_front.specs.Plan.{Plan}
 use Rattle.locked_front.specs.Owned.{step_by, run_step, HasSeen, TookTurn, LeftAll, TookOrLeft, TookLook}
 use Rattle.locked_front.specs.Parts.{IsPartOf, HasLearned, PartWrites, PartChanges, PartReads, session_of}
-use Rattle.fronts.proofs.OneStep.{stamp_as, replied_at, raised}
+use Rattle.fronts.proofs.OneStep.{replied_at, raised}
 use Rattle.fronts.proofs.SeatReads.{was_read}
-
--- Histories
-
--- of two prefixes of a history the one with no greater stamp begins the other
-older_begins : (options : Options) (all a b : History) → IsPrefix a all → IsPrefix b all → stamp_of options a ≤ stamp_of options b → IsPrefix a b
-older_begins options all a b s t le = longer_as (λ _. IsPrefix a b) all a b s t (λ c. no_longer c.0 c.1) (λ c. c)
-  where
-    no_longer : (later : History) → a ≡ b ++ later → IsPrefix a b
-    no_longer [] is = ([], sym (append-nil a ∙ is ∙ append-nil b))
-    no_longer (write ∷ later) is =
-        let lower = proper_prefix_lower options a b (write ∷ later, is) (λ e. let n = ap length (e ∙ is) in absurd (omega (arith, length-append b (write ∷ later)))) in
-        absurd (omega (arith, le, lower))
 
 -- What was learned
 
-pub has_learned : (old new : LockedPart) (mid : ReaderState) (learned : Learned) → new.taker ≡ old.taker → new.last ≡ learned.counts.stamp → new.counts ≡ learned.counts
+pub has_learned : (old new : LockedPart) (learned : Learned) → new.taker ≡ old.taker → new.last ≡ learned.counts.stamp → new.counts ≡ learned.counts
     → reader_home new.seat ≡ reader_home old.seat
-    → mid ≡ stamped mid.seen (told (reader_state old.seat) (note_state learned.note)) → reader_state new.seat ≡ stamped (reader_state new.seat).seen mid
-    → IsPrefix (reader_state old.seat).seen mid.seen × IsPrefix (note_state learned.note).seen mid.seen → IsPrefix mid.seen (reader_state new.seat).seen
-    → IsPrefix (reader_state old.seat).done mid.done × IsPrefix (note_state learned.note).done mid.done
-    → new.newest ≡ stamp_of (options_of mid.shape) (reader_state new.seat).seen → HasLearned old learned new
-has_learned old new mid learned taker last counts home one two seen further done newest =
-    let same_done : mid.done ≡ (reader_state new.seat).done = sym (ap (λ (r : ReaderState). r.done) two) in
-    record {
-      taker = taker;
-      last = last;
-      counts = counts;
-      home = home;
-      shape = ap (λ (r : ReaderState). r.shape) two ∙ ap (λ (r : ReaderState). r.shape) one;
-      newest = newest ∙ ap (λ (r : ReaderState). stamp_of (options_of r.shape) (reader_state new.seat).seen) one;
-      seen = (prefix_then _ _ _ seen.0 further, prefix_then _ _ _ seen.1 further);
-      done = subst (λ h. IsPrefix (reader_state old.seat).done h × IsPrefix (note_state learned.note).done h) same_done done;
-      tried = ap (λ (r : ReaderState). r.tried) two ∙ ap (λ (r : ReaderState). r.tried) one;
-      closed = ap (λ (r : ReaderState). r.closed) two ∙ ap (λ (r : ReaderState). r.closed) one;
-      fails = ap (λ (r : ReaderState). r.fails) two ∙ ap (λ (r : ReaderState). r.fails) one;
-    }
+    → reader_state new.seat ≡ stamped (reader_state new.seat).seen (told (reader_state old.seat) (note_state learned.note))
+    → IsPrefix (reader_state old.seat).seen (reader_state new.seat).seen × IsPrefix (note_state learned.note).seen (reader_state new.seat).seen
+    → IsPrefix (reader_state old.seat).done (reader_state new.seat).done × IsPrefix (note_state learned.note).done (reader_state new.seat).done → HasLearned old learned new
+has_learned old new learned taker last counts home is seen done = record {
+  taker = taker;
+  last = last;
+  counts = counts;
+  home = home;
+  shape = ap (λ (r : ReaderState). r.shape) is;
+  seen = seen;
+  done = done;
+  tried = ap (λ (r : ReaderState). r.tried) is;
+  closed = ap (λ (r : ReaderState). r.closed) is;
+  fails = ap (λ (r : ReaderState). r.fails) is;
+}
 
 -- what is told where nothing was answered, and the list of failed tries may be longer
 pub tells_look : (old new : ReaderState) {steps steps_now : List RunStep} (more : List Failure) → steps_now ≡ steps → new.tried ≡ old.tried → new.fails ≡ old.fails ++ more → new.closed ≡ old.closed
@@ -90,7 +74,7 @@ record Hold (plan : Plan) (number : ℕ) (old held : LockedPart) (learned : Lear
   before : History
   history : History
   grew : IsPrefix before history
-  least : old.newest ≤ stamp_of plan.options before
+  newest : IsPrefix (reader_state old.seat).seen before
   seen : HasSeen plan number history learned
   table : held.taker.table ≡ old.taker.table
   own : held.taker.number ≡ old.taker.number
@@ -99,9 +83,6 @@ module _ (plan : Plan) (number : ℕ) (old held new : LockedPart) (learned : Lea
     (same : held ≡ record old { taker = held.taker }) (learns : HasLearned held learned new) where
   knows : HasLearned (record old { taker = held.taker }) learned new
   knows = subst (λ (p : LockedPart). HasLearned p learned new) same learns
-
-  newest_is : new.newest ≡ stamp_of plan.options (reader_state new.seat).seen
-  newest_is = knows.newest ∙ stamp_as plan.options (reader_state old.seat).shape (reader_state new.seat).seen part.shape
 
   module _ (hold : Hold plan number old held learned) where
     stamped_at : learned.counts.stamp ≡ stamp_of plan.options hold.history
@@ -119,8 +100,7 @@ module _ (plan : Plan) (number : ℕ) (old held new : LockedPart) (learned : Lea
       shape = knows.shape ∙ part.shape;
       book = ap (λ (t : TakerView Step). t.table) knows.taker ∙ hold.table ∙ part.book;
       taker = ap (λ (t : TakerView Step). t.number) knows.taker ∙ hold.own;
-      newest = newest_is;
-      last = let up = prefix_rises plan.options hold.history (reader_state new.seat).seen saw in omega (arith, up, knows.last, stamped_at, newest_is);
+      last = let up = prefix_rises plan.options hold.history (reader_state new.seat).seen saw in omega (arith, up, knows.last, stamped_at);
       counts = record { history = hold.history; counted = knows.counts ∙ hold.seen.counted; seen = saw };
     }
 
@@ -128,14 +108,10 @@ module _ (plan : Plan) (number : ℕ) (old held new : LockedPart) (learned : Lea
     cut_at = record { begins = saw; stamped = sym stamped_at }
 
     order : old.last ≤ learned.counts.stamp
-    order = let up = prefix_rises plan.options hold.before hold.history hold.grew in omega (arith, part.last, hold.least, up, stamped_at)
-
-    -- what was looked at begins with all that the front had seen
-    had_seen : IsPrefix (reader_state old.seat).seen hold.before
-    had_seen = older_begins plan.options (reader_state new.seat).seen (reader_state old.seat).seen hold.before knows.seen.0 (prefix_then _ _ _ hold.grew saw) (omega (arith, part.newest, hold.least))
+    order = let up = prefix_rises plan.options (reader_state old.seat).seen hold.history (prefix_then _ _ _ hold.newest hold.grew) in omega (arith, part.last, up, stamped_at)
 
   -- a step was taken
-  module _ (before : History) (write : Write) (outcome : Outcome) (took : TookTurn plan number old.newest before old.taker held.taker write outcome learned) where
+  module _ (before : History) (newest : IsPrefix (reader_state old.seat).seen before) (write : Write) (outcome : Outcome) (took : TookTurn plan number before old.taker held.taker write outcome learned) where
     abbrev step : RunStep
     step = run_step (step_by write outcome learned)
 
@@ -144,7 +120,7 @@ module _ (plan : Plan) (number : ℕ) (old held new : LockedPart) (learned : Lea
       before = before;
       history = before ++ history_of (step ∷ []);
       grew = (history_of (step ∷ []), refl);
-      least = took.come;
+      newest = newest;
       seen = took.seen;
       table = ap (λ (t : TakerView Step). t.table) took.entered;
       own = ap (λ (t : TakerView Step). t.number) took.entered;
@@ -165,7 +141,7 @@ module _ (plan : Plan) (number : ℕ) (old held new : LockedPart) (learned : Lea
       done = knows.done.0;
       ended = ended by_step;
       order = order by_step;
-      rises = λ yes. let up = raised plan.options before write (is_accepted outcome) yes in omega (arith, up, part.last, took.come, stamped_at by_step);
+      rises = λ yes. let up = raised plan.options before write (is_accepted outcome) yes in let seen = prefix_rises plan.options (reader_state old.seat).seen before newest in omega (arith, up, seen, part.last, stamped_at by_step);
       last = knows.last;
       alone = λ off. absurd (true≢false (sym off));
       told = (_, refl, record { more = []; steps = steps_are ∙ ap (λ l. l ++ step ∷ []) (sym (append-nil (map run_step old.taker.mine))); tried = knows.tried; closed = knows.closed });
@@ -176,16 +152,16 @@ module _ (plan : Plan) (number : ℕ) (old held new : LockedPart) (learned : Lea
 
     changes : (look : Look) → IsLookAt plan.options before write.key look → Changes plan.options false (session_of old) step look (session_of new)
     unfolding writes
-    changes look looked = record { written = writes; before = before; newest = had_seen by_step; looked = looked; next = refl }
+    changes look looked = record { written = writes; before = before; newest = newest; looked = looked; next = refl }
 
   -- nothing was written
-  module _ (before : History) (left : LeftAll plan number old.newest before old.taker held.taker learned) where
+  module _ (before : History) (newest : IsPrefix (reader_state old.seat).seen before) (left : LeftAll plan number before old.taker held.taker learned) where
     abbrev by_none : Hold plan number old held learned
     by_none = record {
       before = before;
       history = before;
       grew = prefix_same before;
-      least = left.come;
+      newest = newest;
       seen = left.seen;
       table = ap (λ (t : TakerView Step). t.table) left.entered;
       own = ap (λ (t : TakerView Step). t.number) left.entered;
@@ -199,7 +175,7 @@ module _ (plan : Plan) (number : ℕ) (old held new : LockedPart) (learned : Lea
       grows = knows.seen.0;
       cut = before;
       at = cut_at by_none;
-      newest = had_seen by_none;
+      newest = newest;
       looked = looked;
       done = knows.done.0;
       order = order by_none;
@@ -208,16 +184,16 @@ module _ (plan : Plan) (number : ℕ) (old held new : LockedPart) (learned : Lea
     }
 
   -- what was decided was done
-  module _ (before : History) (key : List ℕ) (look : Look) (looked : IsLookAt plan.options before key look) where
+  module _ (before : History) (newest : IsPrefix (reader_state old.seat).seen before) (key : List ℕ) (look : Look) (looked : IsLookAt plan.options before key look) where
     changes_or_keeps : (write : Option Write) (outcome : Option Outcome) → ((w : Write) → write ≡ Some w → w.key ≡ key)
-        → TookOrLeft plan number old.newest before old.taker held.taker write outcome learned
+        → TookOrLeft plan number before old.taker held.taker write outcome learned
         → IsPartOf plan number old.taker.number new × (length new.taker.mine ≡ length old.taker.mine + count_of outcome)
         × DoesWrite plan.options false (session_of old) key write outcome learned.counts.stamp look (session_of new)
-    changes_or_keeps None None keyed left = (still (by_none before left), none_taken before left, keeps before left key look looked)
+    changes_or_keeps None None keyed left = (still (by_none before newest left), none_taken before newest left, keeps before newest left key look looked)
     changes_or_keeps (Some write) (Some outcome) keyed took = (
-      still (by_step before write outcome took),
-      one_taken before write outcome took,
-      changes before write outcome took look (subst (λ k. IsLookAt plan.options before k look) (sym (keyed write refl)) looked),
+      still (by_step before newest write outcome took),
+      one_taken before newest write outcome took,
+      changes before newest write outcome took look (subst (λ k. IsLookAt plan.options before k look) (sym (keyed write refl)) looked),
     )
     changes_or_keeps None (Some outcome) keyed never = absurd never
     changes_or_keeps (Some write) None keyed never = absurd never
@@ -231,11 +207,11 @@ of_key key (Some v) goes w is = sym (ap (λ (x : Write). x.key) (same_Some _ _ i
 
 pub part_changes : (plan : Plan) (number second : ℕ) (key : List ℕ) (needs : Bool) (becoming : When → Option (List ℕ) → Becoming) (old held new : LockedPart) (changed : Changed) (buffer : List ℕ) (learned : Learned)
     → IsPartOf plan number old.taker.number old → held ≡ record old { taker = held.taker } → HasLearned held learned new
-    → (before : History) → TookLook plan number old.newest second before key needs becoming old.taker held.taker changed buffer learned
+    → (before : History) → IsPrefix (reader_state old.seat).seen before → TookLook plan number second before key needs becoming old.taker held.taker changed buffer learned
     → PartChanges plan number second key needs becoming old changed buffer new
-part_changes plan number second key needs becoming old held new changed buffer learned part same learns before took =
+part_changes plan number second key needs becoming old held new changed buffer learned part same learns before newest took =
     let look : Look = record { when = changed.when; value = took.value } in
-    let did = changes_or_keeps plan number old held new learned part same learns before key look took.looked (write_by becoming key look) changed.outcome
+    let did = changes_or_keeps plan number old held new learned part same learns before newest key look took.looked (write_by becoming key look) changed.outcome
     (of_key key took.value (becoming changed.when took.value)) took.does in
     record {
       still = did.0;
@@ -252,7 +228,7 @@ part_changes plan number second key needs becoming old held new changed buffer l
 -- A get
 
 module _ (plan : Plan) (number : ℕ) (old new : LockedPart) (key : List ℕ) (stamp : ℕ) (buffer : List ℕ) (part : IsPartOf plan number old.taker.number old)
-    (taker : new.taker ≡ old.taker) (last : new.last ≡ stamp) (newest : new.newest ≡ stamp) (counts : new.counts ≡ old.counts) (home : reader_home new.seat ≡ reader_home old.seat) where
+    (taker : new.taker ≡ old.taker) (last : new.last ≡ stamp) (counts : new.counts ≡ old.counts) (home : reader_home new.seat ≡ reader_home old.seat) where
   part_reads : (answer : Answer) (value : Option (List ℕ)) → IsAnswer answer buffer value → IsReadAt (reader_state old.seat) key stamp value (reader_state new.seat)
       → PartReads plan number old key answer stamp buffer new
   part_reads answer value is read =
@@ -264,8 +240,7 @@ module _ (plan : Plan) (number : ℕ) (old new : LockedPart) (key : List ℕ) (s
           shape = seat.shape ∙ part.shape;
           book = ap (λ (t : TakerView Step). t.table) taker ∙ part.book;
           taker = ap (λ (t : TakerView Step). t.number) taker;
-          newest = newest ∙ at.0;
-          last = omega (arith, last, newest);
+          last = omega (arith, last, at.0);
           counts = record {
             history = part.counts.history;
             counted = counts ∙ part.counts.counted;
@@ -287,12 +262,12 @@ module _ (plan : Plan) (number : ℕ) (old new : LockedPart) (key : List ℕ) (s
       part_reads Miss None (refl, it.1) it.0
 
 -- the note of a look is of the plan's partition
-pub look_home : {plan : Plan} {number least second : ℕ} {before : History} {key : List ℕ} {needs : Bool} {becoming : When → Option (List ℕ) → Becoming} {old new : TakerView Step} {changed : Changed} {buffer : List ℕ} {learned : Learned}
-    → TookLook plan number least second before key needs becoming old new changed buffer learned → note_home learned.note ≡ plan.homes number
-look_home {plan = plan} {number = number} {least = least} {before = before} {key = key} {becoming = becoming} {old = old} {new = new} {changed = changed} {learned = learned} took =
+pub look_home : {plan : Plan} {number second : ℕ} {before : History} {key : List ℕ} {needs : Bool} {becoming : When → Option (List ℕ) → Becoming} {old new : TakerView Step} {changed : Changed} {buffer : List ℕ} {learned : Learned}
+    → TookLook plan number second before key needs becoming old new changed buffer learned → note_home learned.note ≡ plan.homes number
+look_home {plan = plan} {number = number} {before = before} {key = key} {becoming = becoming} {old = old} {new = new} {changed = changed} {learned = learned} took =
     at_home (write_by becoming key (record { when = changed.when; value = took.value })) changed.outcome took.does
   where
-    at_home : (write : Option Write) (outcome : Option Outcome) → TookOrLeft plan number least before old new write outcome learned → note_home learned.note ≡ plan.homes number
+    at_home : (write : Option Write) (outcome : Option Outcome) → TookOrLeft plan number before old new write outcome learned → note_home learned.note ≡ plan.homes number
     at_home None None left = left.seen.home
     at_home (Some write) (Some outcome) turn = turn.seen.home
     at_home None (Some outcome) never = absurd never

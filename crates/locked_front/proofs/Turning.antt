@@ -6,7 +6,7 @@ use Rattle.partition_model.specs.declared.options.Options.{Options}
 use Rattle.partition_model.specs.declared.write.Outcome.{Outcome}
 use Rattle.partition_model.specs.declared.write.Write.{Write}
 use Rattle.partition_model.specs.Write.{is_accepted}
-use Rattle.partition_model.specs.History.{History, MayGive, stamp_of, answer_of, writes_to_bucket}
+use Rattle.partition_model.specs.History.{History, IsPrefix, MayGive, stamp_of, answer_of, writes_to_bucket}
 use Rattle.partition_model.specs.Run.{RunStep, history_of, IsRunFrom}
 use Rattle.partition_model.proofs.Runs.{history-append, run-append}
 use Rattle.partition_words.specs.declared.shape.Shape.{Shape}
@@ -17,9 +17,11 @@ use Rattle.partition_words.specs.declared.reader.ReaderState.{ReaderState}
 use Rattle.partition_words.specs.Shape.{shape_of, options_of}
 use Rattle.partition_words.specs.OwnerState.{options_in}
 use Rattle.partition_words.specs.OwnerStep.{IsOwnerStep}
-use Rattle.partition_words.specs.Joins.{lent, ended_in}
+use Rattle.partition_words.specs.Kept.{Kept}
+use Rattle.partition_words.specs.Joins.{lent, ended_in, met_by}
 use Rattle.partition_words.proofs.SameMachine.{same_may_give}
 use Rattle.partition_words.proofs.StepGains.{step_gains}
+use Rattle.partition_table.specs.declared.reader.Note.{Note}
 use Rattle.partition_table.specs.Seats.{note_state, note_home}
 use Rattle.fronts.specs.declared.changing.Changed.{Changed}
 use Rattle.fronts.specs.declared.changing.When.{When}
@@ -36,7 +38,7 @@ use Rattle.locked_front.specs.declared.counts.HistoryCounts.{HistoryCounts}
 use Rattle.locked_front.specs.declared.counts.Learned.{Learned}
 use Rattle.locked_front.specs.Plan.{Plan}
 use Rattle.locked_front.specs.Counts.{counts_after}
-use Rattle.locked_front.specs.Owned.{Owned, owned_as, step_by, run_step, run_in, IsOwned, HasCome, HasSeen, TookTurn, LeftAll, TookOrLeft, TookLook}
+use Rattle.locked_front.specs.Owned.{Owned, owned_as, step_by, run_step, run_in, IsOwned, HasHeard, HasSeen, TookTurn, LeftAll, TookOrLeft, TookLook}
 
 -- what is counted by the shape is what is counted by the options
 pub plan_counts : (options : Options) (shape : Shape) (history : History) → shape ≡ shape_of options → counts_after (options_of shape) history ≡ counts_after options history
@@ -47,49 +49,24 @@ plan_counts options shape history is = (λ i. record {
   flushes = flushes_in (is i).hashing (is i).buckets history;
 })
 
--- A partition that has come as far as it has to
+-- A front's note, taken in
 
-pub come_now : (plan : Plan) (owned : Owned) (least stamp : ℕ) → IsOwned plan owned → stamp ≡ stamp_of (options_in owned.owner) owned.owner.history → least ≤ stamp
-    → HasCome plan least owned
-come_now plan owned least stamp law stamped le = record {
-  book = law.book;
-  come = let same = stamped ∙ stamp_as plan.options owned.owner.shape owned.owner.history law.shape in omega (arith, le, same);
-}
+module _ (plan : Plan) (was : Owned) (owner : OwnerState) (note : Note) (law : IsOwned plan was) (is : owner ≡ met_by was.owner (note_state note)) where
+  -- what was seen begins the history
+  pub hears : Kept owner → HasHeard plan (note_state note).seen was
+  hears kept = record { book = law.book; begins = subst (λ (o : OwnerState). IsPrefix o.met.seen o.history) is kept.met_seen }
 
--- the stamp that it has come to
-abbrev least_of : Plan → Owned → ℕ
-least_of plan owned = stamp_of plan.options owned.owner.history
-
-module _ {plan : Plan} {least : ℕ} {owned : Owned} (here : HasCome plan least owned) where
-  pub turn_here : {old new : TakerView Step} {write : Write} {outcome : Outcome} {learned : Learned} → TookTurn plan owned.number (least_of plan owned) owned.owner.history old new write outcome learned
-      → TookTurn plan owned.number least owned.owner.history old new write outcome learned
-  turn_here {write = write} {outcome = outcome} {learned = learned} took = record {
-    come = here.come;
-    allowed = took.allowed;
-    seen = took.seen;
-    entered = took.entered;
-  }
-
-  either_here : (old new : TakerView Step) (write : Option Write) (outcome : Option Outcome) (learned : Learned) → TookOrLeft plan owned.number (least_of plan owned) owned.owner.history old new write outcome learned
-      → TookOrLeft plan owned.number least owned.owner.history old new write outcome learned
-  either_here old new None None learned left = record {
-    come = here.come;
-    seen = left.seen;
-    entered = left.entered;
-  }
-  either_here old new (Some write) (Some outcome) learned took = turn_here took
-  either_here old new None (Some outcome) learned never = absurd never
-  either_here old new (Some write) None learned never = absurd never
-
-  pub look_here : {old new : TakerView Step} {second : ℕ} {key : List ℕ} {needs : Bool} {becoming : When → Option (List ℕ) → Becoming} {changed : Changed} {buffer : List ℕ} {learned : Learned}
-      → TookLook plan owned.number (least_of plan owned) second owned.owner.history key needs becoming old new changed buffer learned → TookLook plan owned.number least second owned.owner.history key needs becoming old new changed buffer learned
-  look_here {old = old} {new = new} {changed = changed} {learned = learned} took = record {
-    value = took.value;
-    found = took.found;
-    at = took.at;
-    looked = took.looked;
-    does = either_here old new _ changed.outcome learned took.does;
-    stamped = took.stamped;
+  -- nothing else changes
+  pub still_owned : (home : TableId) → home ≡ was.home → owner.phase ≡ Idle → (note_state note).closed ≡ 0 → IsOwned plan (owned_as was.number home owner was.book)
+  still_owned home home_is idle none = record {
+    book = law.book;
+    fronts = law.fronts;
+    home = home_is ∙ law.home;
+    shape = ap (λ (o : OwnerState). o.shape) is ∙ law.shape;
+    idle = idle;
+    closed = let same = ap (λ (o : OwnerState). o.closed) is in omega (arith, same, law.closed, none);
+    run = law.run;
+    history = ap (λ (o : OwnerState). o.history) is ∙ law.history;
   }
 
 -- what a look came to, where `owner` is the same as before
@@ -97,8 +74,8 @@ pub looks : (plan : Plan) (was : Owned) (owner : OwnerState) (second : ℕ) (key
     (learned : Learned) (write : Option Write) → IsOwned plan was → owner ≡ was.owner → changed.when ≡ when_after (options_in was.owner) second was.owner.history → changed.stamp ≡ learned.counts.stamp
     → IsFound needs changed.found buffer (answer_of (options_in was.owner) was.owner.history key)
     → write ≡ write_by becoming key (record { when = changed.when; value = answer_of (options_in was.owner) was.owner.history key })
-    → TookOrLeft plan was.number (stamp_of plan.options owner.history) owner.history old new write changed.outcome learned
-    → TookLook plan was.number (stamp_of plan.options was.owner.history) second was.owner.history key needs becoming old new changed buffer learned
+    → TookOrLeft plan was.number owner.history old new write changed.outcome learned
+    → TookLook plan was.number second was.owner.history key needs becoming old new changed buffer learned
 looks plan was owner second key needs becoming old new changed buffer learned write law same when stamped found is did = record {
   value = answer_of (options_in was.owner) was.owner.history key;
   found = found;
@@ -107,7 +84,7 @@ looks plan was owner second key needs becoming old new changed buffer learned wr
     when = when ∙ (λ i. when_after (options_of (law.shape i)) (ap (λ (w : When). w.second) (sym when) i) was.owner.history);
     value = answer_as plan.options was.owner.shape was.owner.history key law.shape;
   };
-  does = subst (λ (y : Option Write × History). TookOrLeft plan was.number (stamp_of plan.options y.1) y.1 old new y.0 changed.outcome learned)
+  does = subst (λ (y : Option Write × History). TookOrLeft plan was.number y.1 old new y.0 changed.outcome learned)
       (λ i. (is i, ap (λ (o : OwnerState). o.history) same i)) did;
   stamped = stamped;
 }
@@ -180,9 +157,8 @@ module _ (plan : Plan) (old : Owned) (owner : OwnerState) (home : TableId) (book
   }
 
   pub takes : (after : TakerView Step) → after ≡ taker_view taker.table taker.number (taker.mine ++ step_by write outcome learned ∷ [])
-      → note_state learned.note ≡ lent owner → note_home learned.note ≡ home → TookTurn plan old.number (stamp_of plan.options old.owner.history) old.owner.history taker after write outcome learned
+      → note_state learned.note ≡ lent owner → note_home learned.note ≡ home → TookTurn plan old.number old.owner.history taker after write outcome learned
   takes after entered noted at_home = record {
-    come = omega arith;
     allowed = may;
     seen = subst (λ h. HasSeen plan old.number h learned) longer (seen_by plan old.number owner home learned shape step.idle (home_is ∙ law.home) counted noted at_home);
     entered = entered;
@@ -190,9 +166,8 @@ module _ (plan : Plan) (old : Owned) (owner : OwnerState) (home : TableId) (book
 
 -- a partition that nothing was written in
 pub leaves : (plan : Plan) (was : Owned) (taker : TakerView Step) (learned : Learned) → IsOwned plan was → learned.counts ≡ counts_after (options_in was.owner) was.owner.history
-    → note_state learned.note ≡ lent was.owner → note_home learned.note ≡ was.home → LeftAll plan was.number (stamp_of plan.options was.owner.history) was.owner.history taker taker learned
+    → note_state learned.note ≡ lent was.owner → note_home learned.note ≡ was.home → LeftAll plan was.number was.owner.history taker taker learned
 leaves plan was taker learned law counted noted at_home = record {
-  come = omega arith;
   seen = seen_by plan was.number was.owner was.home learned law.shape law.idle law.home counted noted at_home;
   entered = refl;
 }

@@ -1,17 +1,18 @@
 -- What is kept of a partition under its lock, and what a front has of it once it let go.
-use Rattle.std.specs.Prelude.{◌≡◌, ◌≤◌, ℕ, Bool, List, [], ◌∷◌, ◌++◌, map, Option, Some, None}
+use Rattle.std.specs.Prelude.{◌≡◌, ℕ, Bool, List, [], ◌∷◌, ◌++◌, map, Option, Some, None}
 use Rattle.atomic_table.specs.Seated.{TableId}
 use Rattle.partition_model.specs.declared.write.Op.TheVariants.{Del}
 use Rattle.partition_model.specs.declared.write.Outcome.{Outcome}
 use Rattle.partition_model.specs.declared.write.Outcome.TheVariants.{Absent}
 use Rattle.partition_model.specs.declared.write.Write.{Write}
 use Rattle.partition_model.specs.Write.{write_of}
-use Rattle.partition_model.specs.History.{History, MayGive, stamp_of}
+use Rattle.partition_model.specs.History.{History, MayGive, IsPrefix}
 use Rattle.partition_model.specs.Run.{RunStep, history_of, IsRunFrom}
 use Rattle.partition_words.specs.declared.state.OwnerState.{OwnerState}
 use Rattle.partition_words.specs.declared.state.Phase.TheVariants.{Idle}
 use Rattle.partition_words.specs.declared.reader.ReaderState.{ReaderState}
 use Rattle.partition_words.specs.Shape.{shape_of}
+use Rattle.partition_table.specs.declared.reader.Note.{Note}
 use Rattle.partition_table.specs.Seats.{note_state, note_home}
 use Rattle.turn_book.specs.declared.rule.Entry.{Entry}
 use Rattle.turn_book.specs.Entries.{BookView, TakerView, taker_view}
@@ -71,6 +72,16 @@ pub record IsOwned (plan : Plan) (owned : Owned) : Type 0 where
 abbrev pub NotesAre : {N : Type 0} → (N → ReaderState) → (N → TableId) → (N → ReaderState) → (N → TableId) → Type 0
 NotesAre {N} noted home_of state home = (n : N) → (noted n ≡ state n) × (home_of n ≡ home n)
 
+-- What a front brings to a hold: a note of the plan's partition, that tells what was seen there and nothing else.
+pub record IsNoteOf (plan : Plan) (number : ℕ) (note : Note) : Type 0 where
+  pub home : note_home note ≡ plan.homes number
+  pub closed : (note_state note).closed ≡ 0
+
+-- The partition is the plan's of its number, and its history begins with what was seen.
+pub record HasHeard (plan : Plan) (seen : History) (owned : Owned) : Type 0 where
+  pub book : owned.book.table ≡ plan.books owned.number
+  pub begins : IsPrefix seen owned.owner.history
+
 -- What a hold gives
 
 -- What was learned is of the plan's partition at this history: the note has seen it, all of it had ended, and it is what was counted.
@@ -85,17 +96,15 @@ pub record HasSeen (plan : Plan) (number : ℕ) (history : History) (learned : L
 abbrev pub step_by : Write → Outcome → Learned → Step
 step_by write outcome learned = step_of write outcome learned.counts.stamp
 
--- The partition had come as far as the least stamp. The machine took one step there, which is the one entry that the taker gained.
-pub record TookTurn (plan : Plan) (number least : ℕ) (before : History) (old new : TakerView Step) (write : Write) (outcome : Outcome) (learned : Learned)
+-- The machine took one step there, which is the one entry that the taker gained.
+pub record TookTurn (plan : Plan) (number : ℕ) (before : History) (old new : TakerView Step) (write : Write) (outcome : Outcome) (learned : Learned)
     : Type 0 where
-  pub come : least ≤ stamp_of plan.options before
   pub allowed : MayGive plan.options before write outcome
   pub seen : HasSeen plan number (before ++ history_of (run_step (step_by write outcome learned) ∷ [])) learned
   pub entered : new ≡ taker_view old.table old.number (old.mine ++ step_by write outcome learned ∷ [])
 
 -- Nothing was written.
-pub record LeftAll (plan : Plan) (number least : ℕ) (before : History) (old new : TakerView Step) (learned : Learned) : Type 0 where
-  pub come : least ≤ stamp_of plan.options before
+pub record LeftAll (plan : Plan) (number : ℕ) (before : History) (old new : TakerView Step) (learned : Learned) : Type 0 where
   pub seen : HasSeen plan number before learned
   pub entered : new ≡ old
 
@@ -106,22 +115,17 @@ where_none Become = Become
 where_none Go = Stay
 
 -- a write was done, with this outcome; or there was none to do
-abbrev pub TookOrLeft : Plan → ℕ → ℕ → History → TakerView Step → TakerView Step → Option Write → Option Outcome → Learned → Type 0
-TookOrLeft plan number least before old new None None learned = LeftAll plan number least before old new learned
-TookOrLeft plan number least before old new (Some write) (Some outcome) learned = TookTurn plan number least before old new write outcome learned
-TookOrLeft _ _ _ _ _ _ _ _ _ = ⊥
+abbrev pub TookOrLeft : Plan → ℕ → History → TakerView Step → TakerView Step → Option Write → Option Outcome → Learned → Type 0
+TookOrLeft plan number before old new None None learned = LeftAll plan number before old new learned
+TookOrLeft plan number before old new (Some write) (Some outcome) learned = TookTurn plan number before old new write outcome learned
+TookOrLeft _ _ _ _ _ _ _ _ = ⊥
 
 -- a value was looked at, and what was decided of it was done
-pub record TookLook (plan : Plan) (number least second : ℕ) (before : History) (key : List ℕ) (needs : Bool) (becoming : When → Option (List ℕ) → Becoming)
+pub record TookLook (plan : Plan) (number second : ℕ) (before : History) (key : List ℕ) (needs : Bool) (becoming : When → Option (List ℕ) → Becoming)
     (old new : TakerView Step) (changed : Changed) (buffer : List ℕ) (learned : Learned) : Type 0 where
   pub value : Option (List ℕ)
   pub found : IsFound needs changed.found buffer value
   pub at : changed.when.second ≡ second
   pub looked : IsLookAt plan.options before key (record { when = changed.when; value = value })
-  pub does : TookOrLeft plan number least before old new (write_by becoming key (record { when = changed.when; value = value })) changed.outcome learned
+  pub does : TookOrLeft plan number before old new (write_by becoming key (record { when = changed.when; value = value })) changed.outcome learned
   pub stamped : changed.stamp ≡ learned.counts.stamp
-
--- It is the plan's of its number, and has come as far as the stamp.
-pub record HasCome (plan : Plan) (least : ℕ) (owned : Owned) : Type 0 where
-  pub book : owned.book.table ≡ plan.books owned.number
-  pub come : least ≤ stamp_of plan.options owned.owner.history

@@ -39,8 +39,7 @@ pub record IsPartOf (plan : Plan) (number front : ℕ) (part : LockedPart) : Typ
   pub shape : (reader_state part.seat).shape ≡ shape_of plan.options
   pub book : part.taker.table ≡ plan.books number
   pub taker : part.taker.number ≡ front
-  pub newest : part.newest ≡ stamp_of plan.options (reader_state part.seat).seen
-  pub last : part.last ≤ part.newest
+  pub last : part.last ≤ stamp_of plan.options (reader_state part.seat).seen
   pub counts : HasCounted plan.options (reader_state part.seat) part.counts
 
 -- the front's session with the partition
@@ -65,7 +64,6 @@ pub record HasLearned (old : LockedPart) (learned : Learned) (new : LockedPart) 
   pub counts : new.counts ≡ learned.counts
   pub home : reader_home new.seat ≡ reader_home old.seat
   pub shape : (reader_state new.seat).shape ≡ (reader_state old.seat).shape
-  pub newest : new.newest ≡ stamp_of (options_of (reader_state old.seat).shape) (reader_state new.seat).seen
   pub seen : IsPrefix (reader_state old.seat).seen (reader_state new.seat).seen × IsPrefix (note_state learned.note).seen (reader_state new.seat).seen
   pub done : IsPrefix (reader_state old.seat).done (reader_state new.seat).done × IsPrefix (note_state learned.note).done (reader_state new.seat).done
   pub tried : (reader_state new.seat).tried ≡ (reader_state old.seat).tried
@@ -91,7 +89,6 @@ pub record PartRests (old new : LockedPart) : Type 0 where
   pub seat : reader_state new.seat ≡ reader_state old.seat
   pub taker : new.taker ≡ old.taker
   pub last : new.last ≡ old.last
-  pub newest : new.newest ≡ old.newest
   pub counts : new.counts ≡ old.counts
 
 -- the answer of a get, with its stamp
@@ -106,7 +103,6 @@ pub record PartGets (old : LockedPart) (key : List ℕ) (answer : Answer) (stamp
   pub home : reader_home new.seat ≡ reader_home old.seat
   pub taker : new.taker ≡ old.taker
   pub last : new.last ≡ stamp
-  pub newest : new.newest ≡ stamp
   pub counts : new.counts ≡ old.counts
   pub shape : (reader_state new.seat).shape ≡ (reader_state old.seat).shape
   pub seen : IsPrefix (reader_state old.seat).seen (reader_state new.seat).seen

@@ -11,7 +11,7 @@ ghost use Rattle.locked_front.specs.Parts.{IsPartOf, IsLockedFront, locked_view,
 
 use crate::locks::PartitionLocks;
 use crate::marks::make_mark;
-use crate::owned::ServerPlan;
+use crate::owned::{KeyedChange, KeyedWrite, ServerPlan};
 use crate::part::LockedPart;
 use crate::passing::{count_if_read, pass_item};
 use fronts::{
@@ -21,7 +21,7 @@ use mica_words::{Hashing, partition_of};
 use outside::NoMemory;
 use partition_model::{Answer, ItemBuf, Mode, Op, Options, Outcome};
 use partition_table::{Note, ReaderSeat};
-use partition_words::LendPartition;
+use partition_words::{HearPartition, LendPartition};
 use std::alloc::Global;
 use std::marker::Model;
 use std::sync::Wait;
@@ -112,6 +112,21 @@ impl<
         }
     }
 
+    /// What it has of each partition, in order.
+    pub fn into_parts(self) -> Vec<LockedPart>
+        ensures front { IsLockedFront J.plan self.entry }
+        ensures same { result.items ≡ self.entry.parts }
+    {
+        self.parts
+    }
+}
+
+impl<
+    'a,
+    J: ServerPlan,
+    P: HearPartition<Reader = ReaderSeat, Note = Note> + Drop,
+    R: Wait,
+> LockedFront<'a, J, P, R> {
     // Takes a turn of the key's partition, for one write.
     fn write_in_turn(&mut self, op: Op, key: &[u8], value: &[u8]) -> (Outcome, u64)
         requires key { KeyFits key.now }
@@ -129,22 +144,20 @@ impl<
         let number = partition_of(hash, self.options.partitions);
         let at = number as usize;
         let lock = self.locks.of(number);
-        let written = self.parts[at].write(self.rt, lock, number, op, key, hash, value);
+        let write = KeyedWrite {
+            op,
+            key,
+            hash,
+            value,
+        };
+        let written = self.parts[at].write(self.rt, lock, write);
         self.left -= 1;
         tell_worn(self.ended, Some(written.0));
         written
     }
-
-    /// What it has of each partition, in order.
-    pub fn into_parts(self) -> Vec<LockedPart>
-        ensures front { IsLockedFront J.plan self.entry }
-        ensures same { result.items ≡ self.entry.parts }
-    {
-        self.parts
-    }
 }
 
-impl<'a, J: ServerPlan, P: LendPartition<Reader = ReaderSeat, Note = Note> + Drop, R: Wait> Front
+impl<'a, J: ServerPlan, P: HearPartition<Reader = ReaderSeat, Note = Note> + Drop, R: Wait> Front
     for LockedFront<'a, J, P, R> {
     ghost use Rattle.std.specs.Prelude.{false, []};
     ghost use Rattle.locked_front.specs.Parts.{sessions_of, turns_left};
@@ -198,11 +211,11 @@ impl<'a, J: ServerPlan, P: LendPartition<Reader = ReaderSeat, Note = Note> + Dro
         let hash = self.options.hashing.key_hash(key);
         let number = partition_of(hash, self.options.partitions);
         let tries = self.options.tries;
-        self.parts[number as usize].read::<R, J>(self.rt, number, key, hash, tries, out)
+        self.parts[number as usize].read(self.rt, key, hash, tries, out)
     }
 }
 
-impl<'a, J: ServerPlan, P: LendPartition<Reader = ReaderSeat, Note = Note> + Drop, R: Wait> Changes
+impl<'a, J: ServerPlan, P: HearPartition<Reader = ReaderSeat, Note = Note> + Drop, R: Wait> Changes
     for LockedFront<'a, J, P, R> {
     fn flush_key(&self, partition: u32, flush: Flush, key: &mut ItemBuf) {
         // What it keeps says that a byte has room for the partition.
@@ -222,9 +235,13 @@ impl<'a, J: ServerPlan, P: LendPartition<Reader = ReaderSeat, Note = Note> + Dro
         let number = partition_of(hash, self.options.partitions);
         let at = number as usize;
         let lock = self.locks.of(number);
-        let changed = self.parts[at].change(
-            self.rt, lock, number, second, key, hash, decide, found, next,
-        );
+        let asked = KeyedChange {
+            second,
+            key,
+            hash,
+            decide,
+        };
+        let changed = self.parts[at].change(self.rt, lock, &asked, found, next);
         self.left -= count_of(changed.outcome);
         tell_worn(self.ended, changed.outcome);
         count_if_read(self.locks.reads_of(number), hash, decide, &changed);
@@ -243,7 +260,7 @@ impl<'a, J: ServerPlan, P: LendPartition<Reader = ReaderSeat, Note = Note> + Dro
 impl<
     'a,
     J: ServerPlan,
-    P: LendPartition<Reader = ReaderSeat, Note = Note> + Drop,
+    P: HearPartition<Reader = ReaderSeat, Note = Note> + Drop,
     R: Wait,
 > CountsWrites for LockedFront<'a, J, P, R> {
     fn writes_left(&self) -> u64 {
@@ -251,7 +268,7 @@ impl<
     }
 }
 
-impl<'a, J: ServerPlan, P: LendPartition<Reader = ReaderSeat, Note = Note> + Drop, R: Wait> Glances
+impl<'a, J: ServerPlan, P: HearPartition<Reader = ReaderSeat, Note = Note> + Drop, R: Wait> Glances
     for LockedFront<'a, J, P, R> {
     fn glance(&self, partition: u32, place: u64, key: &mut ItemBuf, head: &mut ItemBuf) -> Glimpse {
         seat_loads::glance(&self.parts[partition as usize].seat, place, key, head)

@@ -21,7 +21,7 @@ pub use counts::{HistoryCounts, Learned};
 pub use flushes::write_counted;
 pub use front::LockedFront;
 pub use locks::{PartitionLock, PartitionLocks};
-pub use owned::{OwnedPartition, ServerPlan, Step, Written};
+pub use owned::{KeyedChange, KeyedWrite, OwnedPartition, ServerPlan, Step, Turn, Written};
 pub use part::LockedPart;
 pub use reads::Reads;
 pub use returned::Returned;

@@ -1,16 +1,17 @@
 //! A partition under its lock.
-ghost use Rattle.std.specs.Prelude.{◌≡◌, ◌++◌, ◌∷◌, [], ℕ, true, List, Option, IfSome, IfNone};
+ghost use Rattle.std.specs.Prelude.{◌≡◌, ◌++◌, ◌∷◌, [], ℕ, List, Option};
 ghost use Rattle.mica_words.specs.Hash.{hash_of};
 ghost use Rattle.mica_words.specs.Item.{KeyFits};
 ghost use Rattle.partition_model.specs.Answer.{IsAnswer};
 ghost use Rattle.partition_model.specs.Write.{HasValueOf, write_of};
+ghost use Rattle.partition_words.specs.Joins.{met_by};
 ghost use Rattle.partition_words.specs.OwnerState.{options_in};
-ghost use Rattle.partition_model.specs.History.{answer_of, stamp_of};
+ghost use Rattle.partition_model.specs.History.{IsPrefix, answer_of};
 ghost use Rattle.fronts.specs.Changing.{IsFound, write_by, written_by};
 ghost use Rattle.fronts.specs.Flushes.{AreKept};
 ghost use Rattle.turn_book.specs.Entries.{book_view, taker_view, entry};
 ghost use Rattle.partition_table.specs.Seats.{note_state, note_home};
-ghost use Rattle.locked_front.specs.Owned.{where_none as none_where, owned_as, step_of, NotesAre, TookTurn, TookLook, TookOrLeft, HasCome, IsOwned};
+ghost use Rattle.locked_front.specs.Owned.{where_none as none_where, owned_as, step_of, NotesAre, IsNoteOf, HasHeard, TookTurn, TookLook, TookOrLeft, IsOwned};
 ghost use Rattle.locked_front.specs.Returned.{IsNew};
 
 use crate::counts::{HistoryCounts, Learned, learn_of};
@@ -20,7 +21,7 @@ use fronts::{Changed, Decide, KeptFlushes, When};
 use numbered_lock::Numbered;
 use partition_model::{Answer, Change, ItemBuf, Op, Outcome, Write};
 use partition_table::{Note, ReaderSeat};
-use partition_words::{LendPartition, Partition};
+use partition_words::{HearPartition, LendPartition, Partition};
 use std::marker::{Brand, Model, PhantomData};
 use turn_book::{Entered, Taker, TurnBook};
 
@@ -35,6 +36,31 @@ impl ServerPlan for Brand {
     ghost use Rattle.locked_front.specs.Plan.{no_plan};
 
     ghost plan = { no_plan };
+}
+
+/// A write of a key, whose hash is known.
+#[derive(Clone, Copy)]
+pub struct KeyedWrite<'a> {
+    pub op: Op,
+    pub key: &'a [u8],
+    pub hash: u64,
+    pub value: &'a [u8],
+}
+
+/// What is asked of a key, whose hash is known: what becomes of its value at a second.
+#[derive(Drop)]
+pub struct KeyedChange<'a, D> {
+    pub second: u64,
+    pub key: &'a [u8],
+    pub hash: u64,
+    pub decide: &'a D,
+}
+
+/// What a front brings to a hold: a note of what it has seen, and what it asks.
+#[derive(Drop)]
+pub struct Turn<'a, D> {
+    pub note: Note,
+    pub asked: &'a KeyedChange<'a, D>,
 }
 
 /// A write with its outcome, and the stamp after it. No value of it is made.
@@ -94,18 +120,16 @@ impl<J: ServerPlan, P: LendPartition<Reader = ReaderSeat, Note = Note> + Drop> N
 fn enter<K: Entered<Step>>(
     book: &mut TurnBook<Step>,
     taker: &mut Taker<Step>,
-    _op: Op,
-    _key: &[u8],
-    _value: &[u8],
+    _write: KeyedWrite,
     _outcome: Outcome,
     _stamp: u64,
 )
     requires own { taker.old.table ≡ book.old.table }
-    requires what { K.what ≡ step_of (write_of _op _key.now _value.now) _outcome _stamp }
+    requires what { K.what ≡ step_of (write_of _write.op _write.key.now _write.value.now) _outcome _stamp }
     ensures book { book.new ≡ book_view book.old.table book.old.takers
-        (book.old.entries ++ entry taker.old.number (step_of (write_of _op _key.entry.now _value.entry.now) _outcome _stamp) ∷ []) }
+        (book.old.entries ++ entry taker.old.number (step_of (write_of _write.entry.op _write.entry.key.now _write.entry.value.now) _outcome _stamp) ∷ []) }
     ensures taker { taker.new ≡ taker_view taker.old.table taker.old.number
-        (taker.old.mine ++ step_of (write_of _op _key.entry.now _value.entry.now) _outcome _stamp ∷ []) }
+        (taker.old.mine ++ step_of (write_of _write.entry.op _write.entry.key.now _write.entry.value.now) _outcome _stamp ∷ []) }
 {
     book.enter::<K>(taker);
 }
@@ -207,34 +231,26 @@ impl<J: ServerPlan, P: LendPartition<Reader = ReaderSeat, Note = Note> + Drop> O
         }
     }
 
-    // Whether it has come as far as the stamp.
-    fn has_come(&self, least: u64) -> bool
-        ensures { result ≡ true → HasCome J.plan least self.now }
-    {
-        least <= self.part.stamp()
-    }
-
     // Takes one step, in the taker's turn.
-    fn step(
-        &mut self,
-        taker: &mut Taker<Step>,
-        op: Op,
-        key: &[u8],
-        hash: u64,
-        value: &[u8],
-    ) -> Written
-        requires key { KeyFits key.now }
-        requires hashed { hash ≡ hash_of J.plan.options.hashing key.now }
-        requires value { HasValueOf op value.now }
+    fn step(&mut self, taker: &mut Taker<Step>, write: KeyedWrite) -> Written
+        requires key { KeyFits write.key.now }
+        requires hashed { write.hash ≡ hash_of J.plan.options.hashing write.key.now }
+        requires value { HasValueOf write.op write.value.now }
         requires own { taker.old.table ≡ self.old.book.table }
-        ensures took { TookTurn J.plan self.old.number (stamp_of J.plan.options self.old.owner.history) self.old.owner.history taker.old taker.new
-            (write_of op key.entry.now value.entry.now) result.outcome result.learned }
+        ensures took { TookTurn J.plan self.old.number self.old.owner.history taker.old taker.new
+            (write_of write.entry.op write.entry.key.now write.entry.value.now) result.outcome result.learned }
         ensures number { self.new.number ≡ self.old.number }
     {
+        let KeyedWrite {
+            op,
+            key,
+            hash,
+            value,
+        } = write;
         let outcome = write_counted(&mut self.part, &mut self.flushes, op, key, hash, value);
         let learned = learn_of(&mut self.part, &self.flushes);
         let stamp = learned.counts.stamp;
-        enter::<Brand>(&mut self.book, taker, op, key, value, outcome, stamp);
+        enter::<Brand>(&mut self.book, taker, write, outcome, stamp);
         Written { outcome, learned }
     }
 
@@ -250,7 +266,7 @@ impl<J: ServerPlan, P: LendPartition<Reader = ReaderSeat, Note = Note> + Drop> O
         requires key { KeyFits key.now }
         requires hashed { hash ≡ hash_of J.plan.options.hashing key.now }
         requires own { taker.old.table ≡ self.old.book.table }
-        ensures did { TookOrLeft J.plan self.old.number (stamp_of J.plan.options self.old.owner.history) self.old.owner.history taker.old taker.new
+        ensures did { TookOrLeft J.plan self.old.number self.old.owner.history taker.old taker.new
             (written_by key.entry.now next.entry.now change) result.0 result.1 }
         ensures number { self.new.number ≡ self.old.number }
     {
@@ -260,11 +276,23 @@ impl<J: ServerPlan, P: LendPartition<Reader = ReaderSeat, Note = Note> + Drop> O
                 (None, learned)
             }
             Change::Become => {
-                let written = self.step(taker, Op::Put, key, hash, next.value());
+                let write = KeyedWrite {
+                    op: Op::Put,
+                    key,
+                    hash,
+                    value: next.value(),
+                };
+                let written = self.step(taker, write);
                 (Some(written.outcome), written.learned)
             }
             Change::Go => {
-                let written = self.step(taker, Op::Del, key, hash, &[]);
+                let write = KeyedWrite {
+                    op: Op::Del,
+                    key,
+                    hash,
+                    value: &[],
+                };
+                let written = self.step(taker, write);
                 (Some(written.outcome), written.learned)
             }
         }
@@ -274,23 +302,21 @@ impl<J: ServerPlan, P: LendPartition<Reader = ReaderSeat, Note = Note> + Drop> O
     fn change_here<D: Decide>(
         &mut self,
         taker: &mut Taker<Step>,
-        second: u64,
-        key: &[u8],
-        hash: u64,
-        decide: &D,
+        asked: &KeyedChange<D>,
         found: &mut ItemBuf,
         next: &mut ItemBuf,
     ) -> (Changed, Learned)
-        requires key { KeyFits key.now }
-        requires hashed { hash ≡ hash_of J.plan.options.hashing key.now }
+        requires key { KeyFits asked.now.key.now }
+        requires hashed { asked.now.hash ≡ hash_of J.plan.options.hashing asked.now.key.now }
         requires own { taker.old.table ≡ self.old.book.table }
-        ensures looked { TookLook J.plan self.old.number (stamp_of J.plan.options self.old.owner.history) second self.old.owner.history key.entry.now
-            (D.needs decide.entry.now) (D.becoming decide.entry.now) taker.old taker.new result.0 found.new result.1 }
+        ensures looked { TookLook J.plan self.old.number asked.entry.now.second self.old.owner.history asked.entry.now.key.now
+            (D.needs asked.entry.now.decide.now) (D.becoming asked.entry.now.decide.now) taker.old taker.new result.0 found.new result.1 }
         ensures number { self.new.number ≡ self.old.number }
     {
-        let when = HistoryCounts::of(&self.part, &self.flushes).when_at(second);
+        let (key, decide) = (asked.key, asked.decide);
+        let when = HistoryCounts::of(&self.part, &self.flushes).when_at(asked.second);
         let (answer, change) = look(&mut self.part, key, decide, when, found, next);
-        let (outcome, learned) = self.do_change(taker, key, hash, change, next);
+        let (outcome, learned) = self.do_change(taker, key, asked.hash, change, next);
         let changed = Changed {
             when,
             found: answer,
@@ -299,57 +325,56 @@ impl<J: ServerPlan, P: LendPartition<Reader = ReaderSeat, Note = Note> + Drop> O
         };
         (changed, learned)
     }
+}
 
-    /// Does a write in the taker's turn. Nothing where it stands before the stamp.
-    pub fn write(
-        &mut self,
-        taker: &mut Taker<Step>,
-        least: u64,
-        op: Op,
-        key: &[u8],
-        hash: u64,
-        value: &[u8],
-    ) -> Option<Written>
-        requires key { KeyFits key.now }
-        requires hashed { hash ≡ hash_of J.plan.options.hashing key.now }
-        requires value { HasValueOf op value.now }
-        requires own { taker.old.table ≡ J.plan.books self.old.number }
-        ensures written { IfSome result (λ w. TookTurn J.plan self.old.number least self.old.owner.history taker.old taker.new
-            (write_of op key.entry.now value.entry.now) w.outcome w.learned) }
-        ensures none { IfNone result (taker.new ≡ taker.old) }
-        ensures number { self.new.number ≡ self.old.number }
+impl<J: ServerPlan, P: HearPartition<Reader = ReaderSeat, Note = Note> + Drop> OwnedPartition<
+    J,
+    P,
+> {
+    // Takes in what a front has seen, which begins its history.
+    fn hear(&mut self, note: Note)
+        requires { IsNoteOf J.plan self.old.number note }
+        ensures heard { HasHeard J.plan (note_state note).seen self.old }
+        ensures same { self.new ≡ owned_as self.old.number self.old.home (met_by self.old.owner (note_state note)) self.old.book }
     {
-        if self.has_come(least) {
-            Some(self.step(taker, op, key, hash, value))
-        } else {
-            None
-        }
+        self.part.hear(note);
     }
 
-    /// Looks at the key's value, decides, and writes what was decided, in the taker's turn. Nothing where `write` does nothing.
+    /// Does a write in the taker's turn. All that the note has seen was written before.
+    pub fn write(&mut self, taker: &mut Taker<Step>, note: Note, write: KeyedWrite) -> Written
+        requires key { KeyFits write.key.now }
+        requires hashed { write.hash ≡ hash_of J.plan.options.hashing write.key.now }
+        requires value { HasValueOf write.op write.value.now }
+        requires own { taker.old.table ≡ J.plan.books self.old.number }
+        requires note { IsNoteOf J.plan self.old.number note }
+        ensures newest { IsPrefix (note_state note).seen self.old.owner.history }
+        ensures written { TookTurn J.plan self.old.number self.old.owner.history taker.old taker.new
+            (write_of write.entry.op write.entry.key.now write.entry.value.now) result.outcome result.learned }
+        ensures number { self.new.number ≡ self.old.number }
+    {
+        self.hear(note);
+        self.step(taker, write)
+    }
+
+    /// Looks at the key's value, decides, and writes what was decided, in the taker's turn. All that the note has seen was written before.
     pub fn change<D: Decide>(
         &mut self,
         taker: &mut Taker<Step>,
-        least: u64,
-        second: u64,
-        key: &[u8],
-        hash: u64,
-        decide: &D,
+        turn: Turn<D>,
         found: &mut ItemBuf,
         next: &mut ItemBuf,
-    ) -> Option<(Changed, Learned)>
-        requires key { KeyFits key.now }
-        requires hashed { hash ≡ hash_of J.plan.options.hashing key.now }
+    ) -> (Changed, Learned)
+        requires key { KeyFits turn.asked.now.key.now }
+        requires hashed { turn.asked.now.hash ≡ hash_of J.plan.options.hashing turn.asked.now.key.now }
         requires own { taker.old.table ≡ J.plan.books self.old.number }
-        ensures looked { IfSome result (λ r. TookLook J.plan self.old.number least second self.old.owner.history key.entry.now
-            (D.needs decide.entry.now) (D.becoming decide.entry.now) taker.old taker.new r.0 found.new r.1) }
-        ensures none { IfNone result (taker.new ≡ taker.old) }
+        requires note { IsNoteOf J.plan self.old.number turn.note }
+        ensures newest { IsPrefix (note_state turn.entry.note).seen self.old.owner.history }
+        ensures looked { TookLook J.plan self.old.number turn.entry.asked.now.second self.old.owner.history turn.entry.asked.now.key.now
+            (D.needs turn.entry.asked.now.decide.now) (D.becoming turn.entry.asked.now.decide.now) taker.old taker.new result.0 found.new result.1 }
         ensures number { self.new.number ≡ self.old.number }
     {
-        if self.has_come(least) {
-            Some(self.change_here(taker, second, key, hash, decide, found, next))
-        } else {
-            None
-        }
+        let Turn { note, asked } = turn;
+        self.hear(note);
+        self.change_here(taker, asked, found, next)
     }
 }

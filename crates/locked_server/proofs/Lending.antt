@@ -8,8 +8,7 @@ use Rattle.list_laws.proofs.UpTo.{UpTo, up_one}
 use Rattle.partition_words.specs.declared.state.OwnerState.{OwnerState}
 use Rattle.partition_words.specs.declared.reader.ReaderState.{ReaderState}
 use Rattle.partition_words.proofs.Prefixes.{prefix_same}
-use Rattle.partition_model.specs.History.{IsPrefix, stamp_of}
-use Rattle.fronts.proofs.OneStep.{stamp_as}
+use Rattle.partition_model.specs.History.{IsPrefix}
 use Rattle.turn_book.specs.Entries.{BookView, TakerView, book_view}
 use Rattle.locked_front.specs.declared.owned.Step.{Step}
 use Rattle.locked_front.specs.declared.part.LockedPart.{LockedPart}
@@ -38,8 +37,6 @@ lent_part plan k p old new part was lends = record {
     home = lends.home ∙ was.home;
     shape = ap (λ (r : ReaderState). r.shape) lends.seat ∙ ap (λ (o : OwnerState). o.shape) was.owner.state;
     book = ap (λ (t : TakerView Step). t.table) lends.taker ∙ ap (λ (b : BookView Step). b.table) was.book;
-    newest = lends.newest ∙ stamp_as plan.options old.owner.shape old.owner.history (ap (λ (o : OwnerState). o.shape) was.owner.state)
-        ∙ ap (λ (r : ReaderState). stamp_of plan.options r.seen) (sym lends.seat);
     last = omega (arith, lends.unanswered);
     counts = record {
       history = old.owner.history;

@@ -3,7 +3,7 @@ use Rattle.std.specs.Prelude.{◌≡◌, ◌+◌, ℕ, List, [], length, slice_g
 use Rattle.atomic_table.specs.Seated.{TableId}
 use Rattle.partition_model.specs.declared.options.Options.{Options}
 use Rattle.partition_model.specs.declared.write.Write.{Write}
-use Rattle.partition_model.specs.History.{History, stamp_of}
+use Rattle.partition_model.specs.History.{History}
 use Rattle.partition_words.specs.OwnerState.{options_in}
 use Rattle.partition_words.specs.declared.state.OwnerState.{OwnerState}
 use Rattle.partition_words.specs.Joins.{lent}
@@ -102,7 +102,6 @@ pub record LendsOne (old new : FilledView) (part : LockedPart) : Type 0 where
   pub seat : reader_state part.seat ≡ lent old.owner
   pub home : reader_home part.seat ≡ old.home
   pub unanswered : part.last ≡ 0
-  pub newest : part.newest ≡ stamp_of (options_in old.owner) old.owner.history
   pub counts : part.counts ≡ counts_after (options_in old.owner) old.owner.history
 
 -- what front f begins with in a partition

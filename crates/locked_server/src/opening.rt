@@ -143,7 +143,6 @@ impl<P: LendPartition<Reader = ReaderSeat, Note = Note>> FilledPart<P> {
             seat,
             taker: self.book.enroll(),
             last: 0,
-            newest: self.part.stamp(),
             counts: HistoryCounts::of(&self.part, &self.flushes),
         })
     }

@@ -27,7 +27,7 @@ use locked_front::ServerPlan;
 use outside::{Gate, Net, rehearse};
 use partition_model::{Mode, Write};
 use partition_table::{Note, OwnerSeat, ReaderSeat};
-use partition_words::LendPartition;
+use partition_words::HearPartition;
 use served::{bind_all, release_all};
 use std::marker::Brand;
 use std::sync::Wait;
@@ -38,7 +38,7 @@ use store_partition::StorePartition;
 fn bind_and_serve<
     W: Threads + Wait + Sync,
     J: ServerPlan + Send + Sync,
-    P: OnTable + LendPartition<Reader = ReaderSeat, Note = Note> + Drop + Send,
+    P: OnTable + HearPartition<Reader = ReaderSeat, Note = Note> + Drop + Send,
     N: Net,
     L: Listeners,
     G: Gate,
@@ -95,7 +95,7 @@ fn bind_and_serve<
 fn serve_named<
     J: ServerPlan + Send + Sync,
     W: Threads + Wait + Sync,
-    P: OnTable + LendPartition<Reader = ReaderSeat, Note = Note> + Drop + Send,
+    P: OnTable + HearPartition<Reader = ReaderSeat, Note = Note> + Drop + Send,
     N: Net,
     L: Listeners,
     G: Gate,
@@ -144,7 +144,7 @@ fn serve_named<
 // Serves the ports before partitions of one mode.
 fn serve_on<
     W: Threads + Wait + Sync,
-    P: OnTable + LendPartition<Reader = ReaderSeat, Note = Note> + Drop + Send,
+    P: OnTable + HearPartition<Reader = ReaderSeat, Note = Note> + Drop + Send,
     N: Net,
     L: Listeners,
     G: Gate,

@@ -29,7 +29,7 @@ use fronts::{ServeFault, Totals};
 use locked_front::{LockedPart, PartitionLocks, Returned, ServerPlan};
 use outside::{Datagrams, Gate, NoMemory};
 use partition_table::{Note, ReaderSeat};
-use partition_words::LendPartition;
+use partition_words::{HearPartition, LendPartition};
 use std::alloc::Global;
 use std::mem;
 use std::sync::Wait;
@@ -152,7 +152,7 @@ pub struct Came<P: LendPartition<Reader = ReaderSeat, Note = Note> + Drop> {
 fn run_all<
     W: Threads + Wait + Sync,
     J: ServerPlan + Send + Sync,
-    P: LendPartition<Reader = ReaderSeat, Note = Note> + Drop + Send,
+    P: HearPartition<Reader = ReaderSeat, Note = Note> + Drop + Send,
     D: Datagrams + Drop + Send,
     C: Connections + Send,
     G: Gate,
@@ -218,7 +218,7 @@ fn run_all<
 pub(crate) fn serve_all<
     W: Threads + Wait + Sync,
     J: ServerPlan + Send + Sync,
-    P: OnTable + LendPartition<Reader = ReaderSeat, Note = Note> + Drop + Send,
+    P: OnTable + HearPartition<Reader = ReaderSeat, Note = Note> + Drop + Send,
     D: Datagrams + Drop + Send,
     C: Connections + Send,
     G: Gate,

@@ -13,7 +13,7 @@ use fronts::ServeFault;
 use locked_front::{LockedFront, LockedPart, PartitionLocks, ServerPlan};
 use outside::Gate;
 use partition_table::{Note, ReaderSeat};
-use partition_words::LendPartition;
+use partition_words::HearPartition;
 use std::mem;
 use std::sync::Wait;
 use std::sync::atomic::Ordering;
@@ -34,7 +34,7 @@ impl<C: Connections> StreamTask<C> {
     fn run<
         W: Threads + Wait + Sync,
         J: ServerPlan,
-        P: LendPartition<Reader = ReaderSeat, Note = Note> + Drop,
+        P: HearPartition<Reader = ReaderSeat, Note = Note> + Drop,
         G: Gate,
     >(&mut self, shared: &Shared<W, G>, locks: &PartitionLocks<J, P>, number: u32)
         requires plan { IsLockedPlan shared.now.service J.plan locks.now }
@@ -73,7 +73,7 @@ impl<C: Connections> StreamTask<C> {
 pub(crate) fn run_streams<
     W: Threads + Wait + Sync,
     J: ServerPlan + Send + Sync,
-    P: LendPartition<Reader = ReaderSeat, Note = Note> + Drop + Send,
+    P: HearPartition<Reader = ReaderSeat, Note = Note> + Drop + Send,
     C: Connections + Send,
     G: Gate,
 >(shared: &Shared<W, G>, locks: &PartitionLocks<J, P>, streams: &mut Vec<StreamTask<C>>)

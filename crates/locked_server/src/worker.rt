@@ -15,7 +15,7 @@ use fronts::{ServeFault, Totals};
 use locked_front::{LockedFront, LockedPart, PartitionLocks, ServerPlan};
 use outside::{Datagrams, Gate};
 use partition_table::{Note, ReaderSeat};
-use partition_words::LendPartition;
+use partition_words::HearPartition;
 use std::mem;
 use std::sync::Wait;
 use std::sync::atomic::Ordering;
@@ -34,7 +34,7 @@ impl<D: Datagrams> FrontTask<D> {
     fn run<
         W: Threads + Wait + Sync,
         J: ServerPlan,
-        P: LendPartition<Reader = ReaderSeat, Note = Note> + Drop,
+        P: HearPartition<Reader = ReaderSeat, Note = Note> + Drop,
         G: Gate,
     >(&mut self, shared: &Shared<W, G>, locks: &PartitionLocks<J, P>, number: u32)
         requires plan { IsLockedPlan shared.now.service J.plan locks.now }
@@ -62,7 +62,7 @@ impl<D: Datagrams> FrontTask<D> {
 fn run_fronts<
     W: Threads + Wait + Sync,
     J: ServerPlan + Send + Sync,
-    P: LendPartition<Reader = ReaderSeat, Note = Note> + Drop + Send,
+    P: HearPartition<Reader = ReaderSeat, Note = Note> + Drop + Send,
     D: Datagrams + Drop + Send,
     G: Gate,
 >(shared: &Shared<W, G>, locks: &PartitionLocks<J, P>, first: u32, fronts: &mut Vec<FrontTask<D>>)
@@ -88,7 +88,7 @@ fn run_fronts<
 pub(crate) fn run_workers<
     W: Threads + Wait + Sync,
     J: ServerPlan + Send + Sync,
-    P: LendPartition<Reader = ReaderSeat, Note = Note> + Drop + Send,
+    P: HearPartition<Reader = ReaderSeat, Note = Note> + Drop + Send,
     D: Datagrams + Drop + Send,
     C: Connections + Send,
     G: Gate,

@@ -14,7 +14,7 @@ use crate::rule::{PartitionTable, View};
 use atomic_table::Seat;
 use outside::NoMemory;
 use partition_model::Op;
-use partition_words::{LendWords, OwnerEvent, OwnerWords, Shape, WordAt};
+use partition_words::{HearWords, LendWords, OwnerEvent, OwnerWords, Shape, WordAt};
 use std::alloc::Global;
 use std::marker::Brand;
 use std::sync::Arc;
@@ -159,6 +159,14 @@ impl LendWords for OwnerSeat {
             bucket: _,
         } = seat;
         drop(table);
+        self.table.shared.join_seat::<Meets>(&mut self.seat, seat);
+        self.table.shared.load::<TellsWord>(&mut self.seat, 0);
+    }
+}
+
+impl HearWords for OwnerSeat {
+    fn hear(&mut self, note: Note) {
+        let Note { seat } = note;
         self.table.shared.join_seat::<Meets>(&mut self.seat, seat);
         self.table.shared.load::<TellsWord>(&mut self.seat, 0);
     }

@@ -8,6 +8,7 @@
 #![tactic(auto)]
 
 mod event;
+mod hearing;
 mod item;
 mod lend_partition;
 mod lending;
@@ -20,6 +21,7 @@ mod state;
 mod words;
 
 pub use event::{Event, OwnerEvent};
+pub use hearing::{HearPartition, HearWords};
 pub use item::{holds_key, holds_key_hashed, rewrite_item, write_item, write_item_hashed};
 pub use lend_partition::LendPartition;
 pub use lending::LendWords;

@@ -26,7 +26,8 @@ use mica_words::{item_size, tag_of};
 use outside::NoMemory;
 use partition_model::{Answer, ItemBuf, Op, Outcome, keeps};
 use partition_words::{
-    LendPartition, LendWords, OwnerWords, Partition, rewrite_item, write_item_hashed,
+    HearPartition, HearWords, LendPartition, LendWords, OwnerWords, Partition, rewrite_item,
+    write_item_hashed,
 };
 use std::alloc::Global;
 
@@ -361,5 +362,11 @@ impl<W: LendWords> LendPartition for StorePartition<W> {
 
     fn meet(&mut self, seat: W::Reader) {
         self.words.meet(seat);
+    }
+}
+
+impl<W: HearWords> HearPartition for StorePartition<W> {
+    fn hear(&mut self, note: W::Note) {
+        self.words.hear(note);
     }
 }

@@ -1,7 +1,6 @@
 use Rattle.std.proofs.Common.{ℕ, sym, ap, ◌∙◌, subst}
-use Rattle.std.proofs.lemmas.Option.{IfSome_then}
 use Rattle.numbered_lock.proofs.Holding.{may_lend, has_number, never_none, stays_held}
-use Rattle.locked_front.specs.Owned.{TookLook}
+use Rattle.locked_front.specs.Owned.{IsNoteOf, TookLook}
 use Rattle.locked_front.proofs.Locking.{number_of}
 use Rattle.locked_front.proofs.held.change_held.Goals as goal
 
@@ -20,11 +19,17 @@ returns-clause-held g c =
     let same = has_number number_of _ _ _ c.requires.held c.slot_mut.result.now c.in-Some.part c.slot_mut.ensures.value c.in-Some.is in
     stays_held number_of _ _ _ c.requires.held c.change.new.self (c.change.ensures.number ∙ same)
 
+pub change-requires-clause-note : goal.change-requires-clause-note
+change-requires-clause-note g c =
+    subst (λ n. IsNoteOf g.J.ServerPlan.plan n c.args.turn.note) (sym (has_number number_of _ _ _ c.requires.held c.slot_mut.result.now c.in-Some.part c.slot_mut.ensures.value c.in-Some.is)) c.requires.note
+
 pub returns-clause-looked : goal.returns-clause-looked
 returns-clause-looked g c =
     let same = has_number number_of _ _ _ c.requires.held c.slot_mut.result.now c.in-Some.part c.slot_mut.ensures.value c.in-Some.is in
     let part = c.in-Some.part in
-    IfSome_then c.change.result c.change.ensures.looked (λ r took. (
+    let asked = c.args.turn.asked.now in (
       part.owner.history,
-      subst (λ (n : ℕ). TookLook g.J.ServerPlan.plan n c.args.least c.args.second part.owner.history c.args.key.now (g.D.Decide.needs c.args.decide.now) (g.D.Decide.becoming c.args.decide.now) c.args.taker.now c.change.new.taker r.0 c.change.new.found r.1) same took,
-    ))
+      c.change.ensures.newest,
+      subst (λ (n : ℕ). TookLook g.J.ServerPlan.plan n asked.second part.owner.history asked.key.now (g.D.Decide.needs asked.decide.now) (g.D.Decide.becoming asked.decide.now)
+          c.args.taker.now c.change.new.taker c.change.result.0 c.change.new.found c.change.result.1) same c.change.ensures.looked,
+    )

@@ -1,8 +1,7 @@
 use Rattle.std.proofs.Common.{ℕ, sym, ap, ◌∙◌, subst}
-use Rattle.std.proofs.lemmas.Option.{IfSome_then}
 use Rattle.numbered_lock.proofs.Holding.{may_lend, has_number, never_none, stays_held}
 use Rattle.partition_model.specs.Write.{write_of}
-use Rattle.locked_front.specs.Owned.{TookTurn}
+use Rattle.locked_front.specs.Owned.{IsNoteOf, TookTurn}
 use Rattle.locked_front.proofs.Locking.{number_of}
 use Rattle.locked_front.proofs.held.write_held.Goals as goal
 
@@ -21,11 +20,16 @@ returns-clause-held g c =
     let same = has_number number_of _ _ _ c.requires.held c.slot_mut.result.now c.in-Some.part c.slot_mut.ensures.value c.in-Some.is in
     stays_held number_of _ _ _ c.requires.held c.write.new.self (c.write.ensures.number ∙ same)
 
+pub write-requires-clause-note : goal.write-requires-clause-note
+write-requires-clause-note g c =
+    subst (λ n. IsNoteOf g.J.ServerPlan.plan n c.args.note) (sym (has_number number_of _ _ _ c.requires.held c.slot_mut.result.now c.in-Some.part c.slot_mut.ensures.value c.in-Some.is)) c.requires.note
+
 pub returns-clause-written : goal.returns-clause-written
 returns-clause-written g c =
     let same = has_number number_of _ _ _ c.requires.held c.slot_mut.result.now c.in-Some.part c.slot_mut.ensures.value c.in-Some.is in
     let part = c.in-Some.part in
-    IfSome_then c.write.result c.write.ensures.written (λ w took. (
+    let wrote = c.write.result in (
       part.owner.history,
-      subst (λ (n : ℕ). TookTurn g.J.ServerPlan.plan n c.args.least part.owner.history c.args.taker.now c.write.new.taker (write_of c.args.op c.args.key.now c.args.value.now) w.outcome w.learned) same took,
-    ))
+      c.write.ensures.newest,
+      subst (λ (n : ℕ). TookTurn g.J.ServerPlan.plan n part.owner.history c.args.taker.now c.write.new.taker (write_of c.args.write.op c.args.write.key.now c.args.write.value.now) wrote.outcome wrote.learned) same c.write.ensures.written,
+    )

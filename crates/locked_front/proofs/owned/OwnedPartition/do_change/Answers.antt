@@ -1,5 +1,4 @@
 use Rattle.std.proofs.Common.{sym, ◌∙◌, subst, None}
-use Rattle.partition_model.specs.History.{stamp_of}
 use Rattle.fronts.specs.Changing.{written_by}
 use Rattle.locked_front.specs.Owned.{Owned, owned_as, LeftAll, TookOrLeft}
 use Rattle.locked_front.proofs.Turning.{leaves}
@@ -12,7 +11,7 @@ returns-in-Stay-clause-did g c =
     let learns = c.learn_of-learned in
     let noted = sym (c.self.invariant.2 learns.result.note).0 ∙ learns.ensures.lent.0 in
     let at_home = sym (c.self.invariant.2 learns.result.note).1 ∙ learns.ensures.lent.1 in
-    subst (λ ch. TookOrLeft plan c.args.self.now.number (stamp_of plan.options c.args.self.now.owner.history) c.args.self.now.owner.history c.args.taker.now c.args.taker.now
+    subst (λ ch. TookOrLeft plan c.args.self.now.number c.args.self.now.owner.history c.args.taker.now c.args.taker.now
     (written_by c.args.key.now c.args.next.now ch) None learns.result) (sym c.in-Stay.is)
-    (subst (λ (o : Owned). LeftAll plan o.number (stamp_of plan.options o.owner.history) o.owner.history c.args.taker.now c.args.taker.now learns.result) c.self.view_is
+    (subst (λ (o : Owned). LeftAll plan o.number o.owner.history c.args.taker.now c.args.taker.now learns.result) c.self.view_is
     (leaves plan was c.args.taker.now learns.result c.self.invariant.0 learns.ensures.counts noted at_home))

@@ -1,5 +1,4 @@
 use Rattle.std.proofs.Common.{refl, ap, ◌∙◌}
-use Rattle.partition_model.specs.History.{stamp_of}
 use Rattle.partition_words.specs.declared.state.OwnerState.{OwnerState}
 use Rattle.partition_words.specs.OwnerState.{options_in}
 use Rattle.locked_front.specs.Counts.{counts_after}
@@ -13,6 +12,5 @@ returns g c =
       seat = c.in_ok-seat.ensures.lent.0;
       home = c.in_ok-seat.ensures.lent.1;
       unanswered = refl;
-      newest = c.stamp.ensures ∙ ap (λ (o : OwnerState). stamp_of (options_in o) o.history) same;
       counts = c.of.ensures ∙ ap (λ (o : OwnerState). counts_after (options_in o) o.history) same;
     }
