@@ -44,7 +44,7 @@ def all_rows():
 
 
 def rows_of_micad():
-    """Servers of two ports, of each kind and mode."""
+    """Servers of each kind and mode: of two ports over UDP, of two threads over TCP."""
     for mode in ("store", "cache"):
         words = ["--mode", mode, *SMALL]
         yield Row(f"micad, datagrams, {mode}", [*words, "--fronts", "2"], is_server=True, program="micad", threads=2 * 2)
@@ -137,7 +137,7 @@ def kill(running):
 
 def run(runner, before, row, seconds, server_port=None):
     """Runs the row with these words before the program's, for at most so many seconds. Whatever it started is killed then."""
-    port = peers.free_port(2) if row.over_tcp else formats.free_port(2) if row.is_server else server_port if row.wants_server else None
+    port = peers.free_port() if row.over_tcp else formats.free_port(2) if row.is_server else server_port if row.wants_server else None
     words = [*row.words, "--memcached" if row.over_tcp else "--port", str(port)] if port else row.words
     running = runner.start([*before, str(runner.programs[row.program]), *words])
     late, serves = threading.Event(), False
@@ -168,9 +168,9 @@ def ask_connection(port):
 
 
 def talk_to(running, port, row):
-    """Asks each of two ports, again each half second until the server ends or has answered: what each of them answered."""
+    """Asks each of two ports, or one port twice over TCP, again each half second until the server ends or has answered: what each of them answered."""
     clients = [] if row.over_tcp else [formats.Client(port + front, 0.5) for front in (0, 1)]
-    asks = [lambda front=front: ask_connection(port + front) if row.over_tcp else ask_datagram(clients[front]) for front in (0, 1)]
+    asks = [lambda front=front: ask_connection(port) if row.over_tcp else ask_datagram(clients[front]) for front in (0, 1)]
     replies, ends = [b"", b""], threading.Event()
     threading.Thread(target=lambda: (running.wait(), ends.set()), daemon=True).start()
     while not ends.is_set() and not all(replies):

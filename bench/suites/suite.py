@@ -38,6 +38,7 @@ class Suite:
     run: typing.Callable  # what each test came to, by its name; of a folder and a port
     source: str | None = None  # Debian's source package that has the tests
     causes: dict = dataclasses.field(default_factory=dict)  # a pattern of the names of tests: what is missing for them
+    starts: bool = False  # its tests start their servers: they are run with the mode in place of a port
 
 
 def installed(packages):
@@ -135,6 +136,8 @@ def server(mode):
 def results(suite, mode):
     with tempfile.TemporaryDirectory(prefix="suite-") as made:
         folder = unpacked(suite.source, made) if suite.source else pathlib.Path(made)
+        if suite.starts:
+            return suite.run(folder, mode)
         words, port = server(mode)
         with started(words, [port]):
             return suite.run(folder, port)

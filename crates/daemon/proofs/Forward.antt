@@ -6,7 +6,7 @@ use Rattle.std.proofs.lemmas.List.{get_or-map, length-map, map-append}
 use Rattle.std.proofs.lemmas.List.Elements.{filter-append}
 use Rattle.std.proofs.lemmas.List.Kept.{AllPairs-filter}
 use Rattle.partition_model.specs.declared.options.Options.{Options}
-use Rattle.fronts.specs.Answered.{Answered, answers_of, partition_in}
+use Rattle.fronts.specs.Answered.{Answered, partition_in}
 use Rattle.served.specs.Served.{NoFall}
 use Rattle.connection_loop.specs.Given.{Given, answers_in, given_to}
 use Rattle.connection_loop.specs.Turns.{Turn, given_in, answered_in}

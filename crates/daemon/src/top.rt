@@ -6,7 +6,7 @@ ghost use Rattle.locked_server.specs.declared.stop.Stop.TheVariants.{Fault};
 ghost use Rattle.locked_server.specs.Service.{IsPossibleService};
 ghost use Rattle.locked_server.specs.Causes.{ports_at};
 ghost use Rattle.locked_server.specs.Streams.{HasPlace};
-ghost use Rattle.daemon_words.specs.DaemonWords.{daemon_of, ArePossibleFronts};
+ghost use Rattle.daemon_words.specs.DaemonWords.{daemon_of, ArePossibleFronts, HaveMarks};
 ghost use Rattle.server_words.specs.Output.{sink_facts};
 ghost use Rattle.daemon.specs.declared.status.DaemonStatus.TheVariants.{NetFault, Stopped, UsedUp};
 ghost use Rattle.daemon.specs.Written.{IsTold};
@@ -135,6 +135,7 @@ fn stay_up<W: Threads + Wait + Sync, K: Sink + Drop, N: Net, L: Listeners, G: Ga
 ) -> DaemonStatus
     requires options { IsPossible read.now.options }
     requires fronts { ArePossibleFronts read.now.ports read.now.streams.ports }
+    requires marks { HaveMarks read.now.options read.now.streams.ports }
     requires filling { All IsWrite filling.items }
     requires unbound { N.binds net.old ≡ 0 }
     requires tables { left.old.tables ≡ [] }
