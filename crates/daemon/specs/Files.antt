@@ -3,6 +3,8 @@ use Rattle.std.specs.Prelude.{◌≡◌, ◌||◌, ℕ, Bool, true, false, not, 
 use Rattle.outside.specs.Script.{is_listed, next_number}
 use Rattle.outside.specs.declared.source.ReadFault.{ReadFault}
 use Rattle.outside.specs.declared.source.ReadFault.TheVariants.{Failed, NoMemory}
+use Rattle.named_files.specs.Files.{FileState}
+use Rattle.named_files.specs.Memory.{settled}
 use Rattle.option_words.specs.Words.{Text}
 use Rattle.daemon.specs.declared.memory_files.MemFile.{MemFile}
 
@@ -52,6 +54,10 @@ named_in files name = find (λ file. bytes_eq (string_bytes file.name) name) fil
 -- its bytes
 abbrev pub file_in : List MemFile → Text → Option (List ℕ)
 file_in files name = option_map (λ file. file.bytes.items) (named_in files name)
+
+-- it as a file that has to survive a crash, all of it on the disk
+abbrev pub new_place : Option (List ℕ) → FileState
+new_place file = record { past = []; now = settled file; first = 0; beside = []; kept = 0 }
 
 -- its script, after so many reads of all files
 abbrev pub script_of : ℕ → Option MemFile → ReadScript

@@ -5,4 +5,6 @@ pub mod Files
 pub mod Filling
 pub mod Daemon
 pub mod Headline
+pub mod Saved
+pub mod Saving
 pub mod Journal

@@ -1,15 +1,23 @@
 //! Files, by their names.
 ghost use Rattle.std.specs.Prelude.{◌≡◌, ◌<◌, ◌≤◌, ℕ, List, Option, Some, option_map, length, vec_len, IfOk, IfSome, IsErrOf};
 ghost use Rattle.outside.specs.Faults.{Rose, faults_after};
+ghost use Rattle.named_files.specs.Files.{FileState, Told, IsSettled};
 ghost use Rattle.daemon.specs.Files.{ReadScript, is_next_failing, after_read, has_failed, Foretells};
 
-use outside::ReadFault;
+use named_files::Place;
+use outside::{NoMemory, ReadFault};
 use std::alloc::Global;
 
 /// What reads files by their names.
 pub trait Files {
+    /// A file that has to survive a crash.
+    type Place: Place + Drop;
+
     /// The bytes of the file of a name, where they are told.
     ghost file: { Self → List ℕ → Option (List ℕ) };
+
+    /// What the file of a name stands for and what is on the disk, where that is told.
+    ghost place: { Self → List ℕ → Option FileState };
 
     /// The count of faults.
     ghost faults: { Self → ℕ };
@@ -23,6 +31,12 @@ pub trait Files {
     /// How many bytes of memory are free, or `None` where that is not known.
     fn free_memory(&self, alloc: Global) -> Option<u64>
         ensures { IfSome (free self.now) (λ told. result ≡ Some told) };
+
+    /// The file of this name, as one that has to survive a crash. No call of it has failed.
+    fn place(&self, alloc: Global, name: &str) -> Result<Self::Place, NoMemory>
+        ensures state { IfOk result (λ p. Self.Place.state p ≡ place self.now name.now) }
+        ensures settled { IfOk result (λ p. Told (Self.Place.state p) IsSettled) }
+        ensures faults { IfOk result (λ p. Self.Place.faults p ≡ 0) };
 
     /// All bytes of the file of this name. A file that can't be opened is a read that failed.
     fn read(&mut self, alloc: Global, name: &str, limit: usize) -> Result<Vec<u8>, ReadFault>

@@ -1,8 +1,9 @@
 //! Files in memory.
 ghost use Rattle.std.specs.Prelude.{◌≡◌, ◌<◌, ◌≤◌, List, ℕ, true, false, [], Some, None, option_map, bytes_eq, length, vec_len, IfOk, IfSome, IsErrOf, OnOk, OnErr, if◌then◌else◌};
-ghost use Rattle.daemon.specs.Files.{ReadScript, Foretells, named_in, file_in, script_of, fails_at};
+ghost use Rattle.daemon.specs.Files.{ReadScript, Foretells, named_in, file_in, new_place, script_of, fails_at};
 
 use crate::{Files, SystemFiles};
+use named_files::MemPlace;
 use outside::{NoMemory, ReadFault};
 use std::alloc::Global;
 
@@ -114,7 +115,11 @@ fn read_named(
 }
 
 impl Files for MemFiles {
+    type Place = MemPlace;
+
     ghost file = { λ f name. file_in f.files.items name };
+
+    ghost place = { λ f name. Some (new_place (file_in f.files.items name)) };
 
     ghost faults = { λ f. f.faults };
 
@@ -124,6 +129,13 @@ impl Files for MemFiles {
 
     fn free_memory(&self, _alloc: Global) -> Option<u64> {
         self.free
+    }
+
+    fn place(&self, alloc: Global, name: &str) -> Result<MemPlace, NoMemory> {
+        match find(self.files.as_slice(), name) {
+            Some(file) => MemPlace::new(alloc, Some(file.bytes.as_slice()), true, &[]),
+            None => MemPlace::new(alloc, None, true, &[]),
+        }
     }
 
     fn read(&mut self, alloc: Global, name: &str, limit: usize) -> Result<Vec<u8>, ReadFault> {

@@ -11,7 +11,7 @@ ghost use Rattle.daemon.specs.Daemon.{daemon_outside};
 ghost use Rattle.daemon.specs.Exit.{first_number, BeginsAbove, BeginsExact, AnswersAlone, ComesTo, DaemonExits};
 
 use crate::reasons::note_reason;
-use crate::{DaemonStatus, Ending, Files, Process, Speaker, Start, daemon};
+use crate::{DaemonStatus, Ending, Files, Keeper, Process, Speaker, Start, daemon};
 use connections::Listeners;
 use daemon_words::{Question, answer_to, long_words, question_of};
 use locked_server::Left;
@@ -74,7 +74,15 @@ fn answer<K: Sink>(question: Question, sink: &mut K) -> Ending
 }
 
 // Runs the server that words give which ask no question.
-fn serve_words<W: Threads + Wait + Sync, F: Files, K: Sink + Drop, N: Net, L: Listeners, G: Gate>(
+fn serve_words<
+    W: Threads + Wait + Sync,
+    F: Files,
+    K: Sink + Drop,
+    C: Clock + Drop,
+    N: Net,
+    L: Listeners,
+    G: Gate,
+>(
     process: &Process<W, G>,
     start: Start,
     words: &[String],
@@ -82,7 +90,7 @@ fn serve_words<W: Threads + Wait + Sync, F: Files, K: Sink + Drop, N: Net, L: Li
     speaker: &mut Speaker<K>,
     net: &mut N,
     listeners: &mut L,
-    left: &mut Left,
+    left: &mut Left<Keeper<F::Place, C>>,
 ) -> Ending
     requires net { N.binds net.old ≡ 0 }
     requires tables { left.old.tables ≡ [] }
@@ -115,6 +123,7 @@ pub fn answer_or_serve<
     W: Threads + Wait + Sync,
     F: Files,
     K: Sink + Drop,
+    C: Clock + Drop,
     N: Net,
     L: Listeners,
     G: Gate,
@@ -126,7 +135,7 @@ pub fn answer_or_serve<
     speaker: &mut Speaker<K>,
     net: &mut N,
     listeners: &mut L,
-    left: &mut Left,
+    left: &mut Left<Keeper<F::Place, C>>,
 ) -> Ending
     requires net { N.binds net.old ≡ 0 }
     requires tables { left.old.tables ≡ [] }
@@ -149,7 +158,7 @@ pub fn run_daemon<
     K: Sink + Drop,
     N: Net,
     L: Listeners,
-    C: Clock,
+    C: Clock + Drop,
     G: Gate,
 >(
     process: &Process<W, G>,
@@ -159,7 +168,7 @@ pub fn run_daemon<
     speaker: &mut Speaker<K>,
     net: &mut N,
     listeners: &mut L,
-    left: &mut Left,
+    left: &mut Left<Keeper<F::Place, C>>,
 ) -> ExitCode
     requires net { N.binds net.old ≡ 0 }
     requires tables { left.old.tables ≡ [] }

@@ -69,6 +69,31 @@ pub(crate) fn note_image<K: Sink + Drop>(
     }
 }
 
+/// Notes why the file of saved items gave nothing that fills the partitions.
+pub(crate) fn note_saved<K: Sink + Drop>(
+    alloc: Global,
+    name: &str,
+    status: DaemonStatus,
+    speaker: &mut Speaker<K>,
+)
+    ensures { speaker.new.sink ≡ speaker.old.sink }
+{
+    if status == DaemonStatus::ReadFault {
+        speaker.doubt = Doubt::File(sentence(alloc, name));
+    }
+    let why = match status {
+        DaemonStatus::ReadFault => "it cannot be read",
+        DaemonStatus::ImageRefused =>
+            "it has no saved items, or is damaged, as standard output says",
+        DaemonStatus::SaveFault => "another server has it, or its lock beside it cannot be made",
+        DaemonStatus::WriteFault => "standard output takes nothing more",
+        _ => "there is no memory for it",
+    };
+    if let Ok(text) = format!(in alloc; "--save {name}: {why}") {
+        speaker.reason = text;
+    }
+}
+
 /// Names a port that was not had.
 pub(crate) fn unbound_reason(alloc: Global, unbound: Unbound) -> String {
     let Unbound { address, port, .. } = unbound;
@@ -89,8 +114,9 @@ fn plain_reason(status: DaemonStatus) -> &'static str {
         DaemonStatus::NetFault =>
             "its ports stopped: a socket failed, or a partition bears no more writes (--wear)",
         DaemonStatus::ImageRefused =>
-            "a partition has no room for all of the image: give more memory",
+            "a partition has no room for all that is to fill it: give more memory",
         DaemonStatus::UsedUp => "its ports have taken all that can be counted",
+        DaemonStatus::SaveFault => "the file of --save could not be written, or given its name",
         DaemonStatus::Stopped => "",
     }
 }

@@ -14,10 +14,12 @@ pub enum DaemonStatus {
     ReadFault = 5,
     WriteFault = 6,
     NetFault = 7,
-    /// The file has no image, or a partition took no pair of it.
+    /// The file has no image, or no saved items, or a partition took no pair of it.
     ImageRefused = 12,
     /// It can take no more.
     UsedUp = 13,
+    /// What was to be saved could not be saved.
+    SaveFault = 14,
 }
 
 /// What words came to: a question of theirs was answered, or a server ended.

@@ -15,20 +15,23 @@ ghost use Rattle.daemon.specs.Daemon.{HasMemory, WritesLast, ServesAloud, Serves
 
 use crate::board::board_of;
 use crate::filling::filling_of;
+use crate::kept::begin_kept;
 use crate::output::{print_totals, write_due};
 use crate::places::{buffers_of, places_of};
 use crate::process::{Process, Start};
-use crate::reasons::{note_image, shortage_reason, unbound_reason};
+use crate::reasons::{note_image, note_saved, shortage_reason, unbound_reason};
 use crate::speaker::{Speaker, Unbound, ready_line, unbound_line};
-use crate::{DaemonStatus, Doubt, Files};
+use crate::{DaemonStatus, Doubt, Files, Keeper};
 use connections::Listeners;
 use daemon_words::{DaemonOptions, StreamOptions, read_daemon};
 use fronts::ServeFault;
 use locked_server::{Left, Service, Shared, Stop, serve_locked};
+use named_files::Place;
 use option_words::WordsFault;
-use outside::{Gate, Net, NoMemory, Sink};
+use outside::{Clock, Gate, Net, NoMemory, Sink};
 use partition_model::{Options, Write};
 use partition_sizes::start_bytes;
+use saved_items::SpillFault;
 use server_words::PortOptions;
 use std::alloc::Global;
 use std::net::Ipv4Addr;
@@ -67,8 +70,35 @@ fn status_at_totals(stopping: &AtomicBool) -> DaemonStatus
     }
 }
 
+// Writes whether items were saved, where that was asked, behind the totals.
+fn tell_kept<K: Sink>(
+    status: DaemonStatus,
+    kept: Result<(), SpillFault>,
+    is_asked: bool,
+    sink: &mut K,
+) -> DaemonStatus {
+    match status {
+        DaemonStatus::Stopped | DaemonStatus::UsedUp => {}
+        _ => return status,
+    }
+    match kept {
+        Ok(()) if is_asked => write_due(sink, b"saved\n", status),
+        Ok(()) => status,
+        Err(SpillFault::NoMemory) => DaemonStatus::NoMemory,
+        Err(SpillFault::Failed) => write_due(sink, b"save fault\n", DaemonStatus::SaveFault),
+    }
+}
+
 // Serves, with the line to be written at hand.
-fn serve_aloud<W: Threads + Wait + Sync, K: Sink + Drop, N: Net, L: Listeners, G: Gate>(
+fn serve_aloud<
+    W: Threads + Wait + Sync,
+    K: Sink + Drop,
+    P: Place + Drop,
+    C: Clock + Drop,
+    N: Net,
+    L: Listeners,
+    G: Gate,
+>(
     shared: &Shared<W, G>,
     stopping: &AtomicBool,
     streams: &StreamOptions,
@@ -76,7 +106,7 @@ fn serve_aloud<W: Threads + Wait + Sync, K: Sink + Drop, N: Net, L: Listeners, G
     speaker: &mut Speaker<K>,
     net: &mut N,
     listeners: &mut L,
-    left: &mut Left,
+    left: &mut Left<Keeper<P, C>>,
 ) -> DaemonStatus
     requires service { IsPossibleService shared.now.service }
     requires fronts { shared.now.service.places ≡ streams.now.ports.fronts }
@@ -91,12 +121,17 @@ fn serve_aloud<W: Threads + Wait + Sync, K: Sink + Drop, N: Net, L: Listeners, G
         (daemon_outside (sink_facts K.Sink speaker.new.sink) (ports_at N.Net L.Listeners net.new listeners.new) left.new.tables left.new.lacked) result }
 {
     match serve_locked(shared, filling, net, listeners, speaker, left) {
-        Ok(totals) => print_totals(
-            shared.alloc,
-            totals,
-            status_at_totals(stopping),
-            &mut speaker.sink,
-        ),
+        Ok(totals) => {
+            let kept = left.keeper.end();
+            let status = status_at_totals(stopping);
+            let status = print_totals(shared.alloc, totals, status, &mut speaker.sink);
+            tell_kept(
+                status,
+                kept,
+                left.keeper.saving.is_some(),
+                &mut speaker.sink,
+            )
+        }
         Err(Stop::Refused) => write_due(
             &mut speaker.sink,
             b"pair refused\n",
@@ -118,12 +153,21 @@ fn serve_aloud<W: Threads + Wait + Sync, K: Sink + Drop, N: Net, L: Listeners, G
             write_unbound(shared.alloc, port, &mut speaker.sink)
         }
         Err(Stop::Fault(fault)) => write_fault(fault, &mut speaker.sink),
+        Err(Stop::Unkept) => write_due(&mut speaker.sink, b"save fault\n", DaemonStatus::SaveFault),
         Err(Stop::Unannounced) => DaemonStatus::WriteFault,
     }
 }
 
 // Serves at the places that the words give, where there is memory for these and for the line.
-fn stay_up<W: Threads + Wait + Sync, K: Sink + Drop, N: Net, L: Listeners, G: Gate>(
+fn stay_up<
+    W: Threads + Wait + Sync,
+    K: Sink + Drop,
+    P: Place + Drop,
+    C: Clock + Drop,
+    N: Net,
+    L: Listeners,
+    G: Gate,
+>(
     process: &Process<W, G>,
     start: Start,
     read: &DaemonOptions,
@@ -131,7 +175,7 @@ fn stay_up<W: Threads + Wait + Sync, K: Sink + Drop, N: Net, L: Listeners, G: Ga
     speaker: &mut Speaker<K>,
     net: &mut N,
     listeners: &mut L,
-    left: &mut Left,
+    left: &mut Left<Keeper<P, C>>,
 ) -> DaemonStatus
     requires options { IsPossible read.now.options }
     requires fronts { ArePossibleFronts read.now.ports read.now.streams.ports }
@@ -202,7 +246,15 @@ fn has_memory<F: Files>(alloc: Global, files: &F, options: &Options) -> bool
 /// counted, and each connection until it ends. It writes one line once it has all ports, and one at its end. Where they take more memory than is free, it ends at once.
 /// `start` has the unique number of the first value that a partition takes from a connection. `left.lacked` says how many connections were closed since there was no
 /// memory for them.
-pub fn daemon<W: Threads + Wait + Sync, F: Files, K: Sink + Drop, N: Net, L: Listeners, G: Gate>(
+pub fn daemon<
+    W: Threads + Wait + Sync,
+    F: Files,
+    K: Sink + Drop,
+    C: Clock + Drop,
+    N: Net,
+    L: Listeners,
+    G: Gate,
+>(
     process: &Process<W, G>,
     start: Start,
     words: &[String],
@@ -210,7 +262,7 @@ pub fn daemon<W: Threads + Wait + Sync, F: Files, K: Sink + Drop, N: Net, L: Lis
     speaker: &mut Speaker<K>,
     net: &mut N,
     listeners: &mut L,
-    left: &mut Left,
+    left: &mut Left<Keeper<F::Place, C>>,
 ) -> DaemonStatus
     requires net { N.binds net.old ≡ 0 }
     requires tables { left.old.tables ≡ [] }
@@ -219,7 +271,7 @@ pub fn daemon<W: Threads + Wait + Sync, F: Files, K: Sink + Drop, N: Net, L: Lis
         (daemon_outside (sink_facts K.Sink speaker.old.sink) (ports_at N.Net L.Listeners net.old listeners.old) left.old.tables left.old.lacked)
         (daemon_outside (sink_facts K.Sink speaker.new.sink) (ports_at N.Net L.Listeners net.new listeners.new) left.new.tables left.new.lacked) result }
 {
-    let read = match read_daemon(process.alloc, words, process.host) {
+    let mut read = match read_daemon(process.alloc, words, process.host) {
         Ok(read) => read,
         Err(WordsFault::Usage) => return DaemonStatus::Usage,
         Err(WordsFault::NoMemory) => return DaemonStatus::NoMemory,
@@ -227,6 +279,34 @@ pub fn daemon<W: Threads + Wait + Sync, F: Files, K: Sink + Drop, N: Net, L: Lis
     if !has_memory(process.alloc, files, &read.options) {
         speaker.reason = shortage_reason(process.alloc, files, words, &read.options);
         return DaemonStatus::NoMemory;
+    }
+    if let Some(name) = read.save {
+        let begun = match begin_kept(
+            process,
+            start,
+            files,
+            name,
+            &read.options,
+            &mut speaker.sink,
+        ) {
+            Ok(begun) => begun,
+            Err(status) => {
+                note_saved(process.alloc, name, status, speaker);
+                return status;
+            }
+        };
+        left.keeper.saving = Some(begun.saving);
+        read.options = begun.options;
+        return stay_up(
+            process,
+            begun.start,
+            &read,
+            begun.filling,
+            speaker,
+            net,
+            listeners,
+            left,
+        );
     }
     match filling_of(process.alloc, files, read.image, &mut speaker.sink) {
         Ok(filling) => stay_up(

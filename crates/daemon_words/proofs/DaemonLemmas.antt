@@ -23,7 +23,7 @@ use Rattle.option_words.specs.Words.{Text, given_by, text_of}
 use Rattle.option_words.specs.Settings.{mode, tries, port, value_of, ◌>>=◌}
 use Rattle.daemon_words.specs.Memory.{memory_of, memory_name}
 use Rattle.daemon_words.specs.StreamWords.{threads_name, threads_for, threads, listen, connections, idle, item_size, memory_among, buffers, port_given, socket_given, has_streams, no_streams, gives_streams, some_streams, streams_by, streams_given}
-use Rattle.daemon_words.specs.DaemonWords.{Service, partitions, buckets, spares, words, wear, sizes_by_words, sizes_by, sizes_given, mode_given, service_options, image_name, fronts, lasting_ports, no_ports, ports_by, ports_given, may_fill, daemon_names, daemon_given, daemon_of, gives_size, ArePossibleFronts, HaveMarks, IsDaemonReading, memory_given}
+use Rattle.daemon_words.specs.DaemonWords.{Service, partitions, buckets, spares, words, wear, sizes_by_words, sizes_by, sizes_given, mode_given, service_options, image_name, save_name, may_save, fronts, lasting_ports, no_ports, ports_by, ports_given, may_fill, daemon_names, daemon_given, daemon_of, gives_size, ArePossibleFronts, HaveMarks, IsDaemonReading, memory_given}
 use Rattle.option_words.proofs.ValueLemmas.{both_told, value_bounds, power_value, one_kilo, required_bounds}
 use Rattle.daemon_words.proofs.MemoryLemmas.{amounts_within}
 
@@ -185,8 +185,8 @@ service_valid host given service is =
     let o = both_told (service_options host given) _ service is in
     let p = both_told (ports_given given) _ service o.2 in
     let s = both_told (streams_given host.processors given) _ service p.2 in
-    let made : Service = record { options = o.0; memory = memory_given given; ports = p.0; streams = s.0; image = given image_name } in
-    told made (may_fill o.0.mode (given image_name)) (service_possible host given o.0 o.1) (ports_valid host.processors given (given port.name) p.0 s.0 p.1 s.1)
+    let made : Service = record { options = o.0; memory = memory_given given; ports = p.0; streams = s.0; image = given image_name; save = given save_name } in
+    told made (may_fill o.0.mode (given image_name) && may_save p.0 (given image_name) (given secret_name) (given save_name)) (service_possible host given o.0 o.1) (ports_valid host.processors given (given port.name) p.0 s.0 p.1 s.1)
     (λ more. service_marks host given o.0 o.1 (some_fronts host.processors given (has_streams given) s.0 s.1 more)) s.2
   where
     told : (made : Service) (fills : Bool) → IsPossible made.options → ArePossibleFronts made.ports made.streams.ports → HaveMarks made.options made.streams.ports

@@ -1,5 +1,5 @@
 -- The words of a server that stays up: its partitions, by their sizes or by how much memory they may take, its ports, and an image.
-use Rattle.std.specs.Prelude.{◌≡◌, ⊤, ℕ, ◌+◌, ◌<◌, Bool, ◌||◌, ◌&&◌, true, List, ◌∷◌, Option, Some, None, is_none, is_some, option_map, codes, Result, Ok, Err, if◌then◌else◌}
+use Rattle.std.specs.Prelude.{◌≡◌, ⊤, ℕ, ◌+◌, ◌<◌, Bool, ◌||◌, ◌&&◌, true, List, ◌∷◌, Option, Some, None, is_none, is_some, ◌==◌, option_map, codes, Result, Ok, Err, if◌then◌else◌}
 use Rattle.mica_words.specs.Mark.{has_marks}
 use Rattle.partition_model.specs.declared.options.Options.{Options}
 use Rattle.partition_model.specs.declared.options.Mode.{Mode}
@@ -92,13 +92,17 @@ service_options host given =
 abbrev pub image_name : Text
 image_name = codes "image"
 
+-- the option that names the file which keeps the items from one run to the next
+abbrev pub save_name : Text
+save_name = codes "save"
+
 -- how many fronts take datagrams
 abbrev pub fronts : Setting ℕ
 fronts = number (codes "fronts") 1 MOST_FRONTS 1
 
 -- the names of its options
 abbrev pub daemon_names : List Text
-daemon_names = mode.name ∷ partitions.name ∷ buckets.name ∷ spares.name ∷ words.name ∷ memory_name ∷ tries.name ∷ wear.name ∷ port.name ∷ fronts.name ∷ image_name ∷ stream_names
+daemon_names = mode.name ∷ partitions.name ∷ buckets.name ∷ spares.name ∷ words.name ∷ memory_name ∷ tries.name ∷ wear.name ∷ port.name ∷ fronts.name ∷ image_name ∷ save_name ∷ stream_names
 
 -- the ports of datagrams, each of whose fronts takes as many as can be counted
 abbrev pub lasting_ports : (Text → Option Text) → Option PortOptions
@@ -119,26 +123,33 @@ ports_by given (Some text) = lasting_ports given
 abbrev pub ports_given : (Text → Option Text) → Option PortOptions
 ports_given given = ports_by given (given port.name)
 
--- what it is to do: its partitions and the memory that their sizes are made for, its ports of datagrams and its port of connections, and the file whose image fills it, if one does
+-- what it is to do: its partitions and the memory that their sizes are made for, its ports of datagrams and its port of connections, the file whose image fills it, if
+-- one does, and the file that keeps its items, if one does
 pub record Service : Type 0 where
   pub options : Options
   pub memory : Option ℕ
   pub ports : PortOptions
   pub streams : StreamOptions
   pub image : Option Text
+  pub save : Option Text
 
 -- an image fills a store, and no cache
 abbrev pub may_fill : Mode → Option Text → Bool
 may_fill Store image = true
 may_fill Cache image = is_none image
 
+-- A file keeps the items of connections alone, and the secret of their hash; so neither an image nor a secret stands beside it.
+abbrev pub may_save : PortOptions → Option Text → Option Text → Option Text → Bool
+may_save ports image secret None = true
+may_save ports image secret (Some name) = (ports.fronts == 0) && is_none image && is_none secret
+
 abbrev pub daemon_given : Host → (Text → Option Text) → Option Service
 daemon_given host given =
     service_options host given >>= λ options.
     ports_given given >>= λ ports.
     streams_given host.processors given >>= λ streams.
-    if may_fill options.mode (given image_name)
-    then Some (record { options = options; memory = memory_given given; ports = ports; streams = streams; image = given image_name })
+    if may_fill options.mode (given image_name) && may_save ports (given image_name) (given secret_name) (given save_name)
+    then Some (record { options = options; memory = memory_given given; ports = ports; streams = streams; image = given image_name; save = given save_name })
     else None
 
 -- what words give on a host
@@ -147,7 +158,14 @@ daemon_of host words = read_as daemon_names (daemon_given host) words
 
 -- of what was read
 abbrev pub service_of : DaemonOptions → Service
-service_of read = record { options = read.options; memory = read.memory; ports = read.ports; streams = read.streams; image = option_map (λ name. name.now) read.image }
+service_of read = record {
+  options = read.options;
+  memory = read.memory;
+  ports = read.ports;
+  streams = read.streams;
+  image = option_map (λ name. name.now) read.image;
+  save = option_map (λ name. name.now) read.save;
+}
 
 -- the ranges of its ports, and of how many fronts there are: one at least
 pub record ArePossibleFronts (ports : PortOptions) (streams : StreamPorts) : Type 0 where

@@ -49,6 +49,7 @@ Items
   -I, --item-size SIZE      the longest value: 1M, and no other bound is served [1M]
       --image FILE          a store begins with the pairs of this image [none]
       --hash-secret HEX     hashes keys under this secret, 32 hexadecimal digits [drawn at each start]
+      --save FILE           at its end the items of memcached's clients are saved here, and its next start loads them [none]
       --wear N              the writes that a partition bears [4611686018427387904]
 
 The program

@@ -66,7 +66,7 @@ static FOREIGN: [Foreign; 31] = [
     Foreign {
         short: "-e",
         long: "--memory-file",
-        instead: "no items stay over a restart: leave it out",
+        instead: "take --save FILE, which keeps the items over a restart",
     },
     Foreign {
         short: "-o",

@@ -112,7 +112,7 @@ impl fmt::Display for Values {
 }
 
 /// The long names of all options, and of questions.
-pub(crate) static NAMES: [&str; 23] = [
+pub(crate) static NAMES: [&str; 24] = [
     "--mode",
     "--memcached",
     "--memory",
@@ -128,6 +128,7 @@ pub(crate) static NAMES: [&str; 23] = [
     "--port",
     "--fronts",
     "--image",
+    "--save",
     "--partitions",
     "--buckets",
     "--spares",
@@ -156,6 +157,7 @@ pub(crate) fn values_of(name: &str) -> Option<Values> {
         "--port" => Some(Values::Number("a port of datagrams", 1_024, 65_000)),
         "--fronts" => Some(Values::Number("it", 1, u64::from(MOST_FRONTS))),
         "--image" => Some(Values::File),
+        "--save" => Some(Values::File),
         "--partitions" => Some(Values::Number("it", 1, u64::from(MOST_PARTITIONS))),
         "--buckets" => Some(Values::PowerOfTwo(16_777_216)),
         "--spares" => Some(Values::Number("it", 0, u64::from(MOST_SPARES))),

@@ -29,9 +29,11 @@ pub struct DaemonOptions<'a> {
     pub streams: StreamOptions,
     /// The file whose image fills the store.
     pub image: Option<&'a str>,
+    /// The file that keeps the items from one run to the next, of memcached's clients alone.
+    pub save: Option<&'a str>,
 }
 
-static DAEMON_OPTIONS: [&str; 21] = [
+static DAEMON_OPTIONS: [&str; 22] = [
     "mode",
     "partitions",
     "buckets",
@@ -43,6 +45,7 @@ static DAEMON_OPTIONS: [&str; 21] = [
     "port",
     "fronts",
     "image",
+    "save",
     "memcached",
     "threads",
     "listen",
@@ -182,7 +185,12 @@ fn daemon_options<'a>(found: &ArgMatches<'a>, host: Host) -> Option<DaemonOption
     let ports = ports_given(found)?;
     let streams = streams_given(found, host.processors)?;
     let image = found.get_str("image");
+    let save = found.get_str("save");
     if options.mode == Mode::Cache && image.is_some() {
+        return None;
+    }
+    let is_alone = ports.fronts == 0 && image.is_none() && found.get_str("hash-secret").is_none();
+    if save.is_some() && !is_alone {
         return None;
     }
     Some(DaemonOptions {
@@ -191,6 +199,7 @@ fn daemon_options<'a>(found: &ArgMatches<'a>, host: Host) -> Option<DaemonOption
         ports,
         streams,
         image,
+        save,
     })
 }
 

@@ -38,6 +38,8 @@ pub(crate) enum Refusal<'a> {
     FewBuffers(&'a str),
     NoMode,
     ImageInCache,
+    SaveBesideImage,
+    SaveBesideSecret,
 }
 
 impl fmt::Display for Refusal<'_> {
@@ -91,6 +93,12 @@ impl fmt::Display for Refusal<'_> {
                 "--port is of batches over UDP and wants --mode cache or --mode store beside it; memcached's clients want -p",
             ),
             Refusal::ImageInCache => f.write_str("--image fills a store: give --mode store"),
+            Refusal::SaveBesideImage => {
+                f.write_str("--save begins with the items that it saved: leave --image out")
+            }
+            Refusal::SaveBesideSecret => {
+                f.write_str("--save keeps the secret in its file: leave --hash-secret out")
+            }
         }
     }
 }

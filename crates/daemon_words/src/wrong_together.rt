@@ -72,6 +72,7 @@ fn of_another_protocol(words: &[String]) -> Option<Refusal<'static>> {
         "--item-size",
         "--buffers",
         "--hash-secret",
+        "--save",
     ] {
         if gives(words, name) {
             return Some(Refusal::Apart(*name));
@@ -132,6 +133,12 @@ pub(crate) fn wrong_together<'a>(words: &'a [String]) -> Refusal<'a> {
     }
     if gives(words, "--port") && !gives(words, "--mode") {
         return Refusal::NoMode;
+    }
+    if gives(words, "--save") && gives(words, "--image") {
+        return Refusal::SaveBesideImage;
+    }
+    if gives(words, "--save") && gives(words, "--hash-secret") {
+        return Refusal::SaveBesideSecret;
     }
     if let Some(refusal) = few_buffers(words) {
         return refusal;

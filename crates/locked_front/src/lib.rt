@@ -18,6 +18,7 @@ mod reads;
 mod returned;
 
 pub use counts::{HistoryCounts, Learned};
+pub use marks::make_mark;
 pub use flushes::write_counted;
 pub use front::LockedFront;
 pub use locks::{PartitionLock, PartitionLocks};

@@ -11,7 +11,7 @@ use partition_model::ItemBuf;
 const ZEROS: usize = MAX_KEY_LEN - FLUSH_LEN;
 
 /// Makes the mark of a flush: its first byte is the partition, then come the two seconds, and zeros.
-pub(crate) fn make_mark(partition: u32, flush: Flush, key: &mut ItemBuf)
+pub fn make_mark(partition: u32, flush: Flush, key: &mut ItemBuf)
     requires { partition < 256 }
     ensures mark { is_mark key.new ≡ true }
     ensures partition { slice_index key.new 0 ≡ partition }

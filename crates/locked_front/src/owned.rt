@@ -198,12 +198,14 @@ impl<J: ServerPlan, P: LendPartition<Reader = ReaderSeat, Note = Note> + Drop> O
     /// What is left once its lock is gone.
     pub fn give_back(self) -> Returned<P>
         ensures law { IsOwned J.plan self }
+        ensures counted { AreKept (P.owner result.part).shape.hashing (P.owner result.part).shape.buckets (P.owner result.part).history result.flushes }
         ensures same { owned_as result.number (P.home result.part) (P.owner result.part) result.book ≡ self }
     {
         Returned {
             number: self.number,
             part: self.part,
             book: self.book,
+            flushes: self.flushes,
         }
     }
 

@@ -18,11 +18,11 @@ use Rattle.locked_server.specs.declared.service.Service.{Service}
 use Rattle.locked_server.specs.declared.filling.OpenFault.{OpenFault}
 use Rattle.locked_server.specs.declared.filling.OpenFault.TheVariants as open_fault
 use Rattle.locked_server.specs.declared.stop.Stop.{Stop}
-use Rattle.locked_server.specs.declared.stop.Stop.TheVariants.{Refused, Unbound, Unheard, Unannounced, Fault}
+use Rattle.locked_server.specs.declared.stop.Stop.TheVariants.{Refused, Unbound, Unheard, Unkept, Unannounced, Fault}
 use Rattle.locked_server.specs.Filled.{origin_of, RefusesFilling}
 use Rattle.connections.specs.Shares.{ShareFacts}
 use Rattle.locked_server.specs.Streams.{ListenFacts, ReleasesStreams}
-use Rattle.locked_server.specs.Causes.{PortFacts, HasPorts, CameTo, StopsStreams, ComesBeside, HasCause, stop_of, IsCauseOfStop, HasAnnounced, Leaves}
+use Rattle.locked_server.specs.Causes.{PortFacts, HasPorts, CameTo, StopsStreams, ComesBeside, HasCause, stop_of, IsCauseOfStop, HasAnnounced, HasKept, Leaves}
 use Rattle.locked_server.proofs.Heard.{kept_unheard}
 use Rattle.locked_server.proofs.Released.{none_released}
 use Rattle.locked_server.proofs.Bound.{unbound}
@@ -43,6 +43,28 @@ pub fails_to_tell : {A : Type 0} {answer : Result Totals Stop} (says fails : A �
     → HasAnnounced says fails answer before after old new
 fails_to_tell says fails before after old new is failed = subst (λ (r : Result Totals Stop). HasAnnounced says fails r before after old new) (sym is) failed
 
+-- Who keeps what is left could not begin.
+pub unkept_untold : {A : Type 0} {answer : Result Totals Stop} (says fails : A → A → Type 0) (before after : PortFacts) (a : A) → answer ≡ Err Unkept → HasPorts before after
+    → HasAnnounced says fails answer before after a a
+unkept_untold says fails before after a is all = subst (λ (r : Result Totals Stop). HasAnnounced says fails r before after a a) (sym is) (all, refl)
+
+-- what became of who keeps it, by an error
+pub kept_by : {V : Type 0} {answer : Result Totals Stop} (begins fails : V → V → Type 0) (keeps : V → KeptSeat → V → Type 0) (tables : List KeptSeat) (old new : V) (stop : Stop) → answer ≡ Err stop
+    → HasKept begins fails keeps (Err stop) tables old new → HasKept begins fails keeps answer tables old new
+kept_by begins fails keeps tables old new stop is kept = subst (λ (r : Result Totals Stop). HasKept begins fails keeps r tables old new) (sym is) kept
+
+-- it had begun, and a front failed
+pub kept_at_fault : {V : Type 0} {answer : Result Totals Stop} (begins fails : V → V → Type 0) (keeps : V → KeptSeat → V → Type 0) (tables : List KeptSeat) (old new : V) (fault : ServeFault)
+    → answer ≡ Err (Fault fault) → begins old new → HasKept begins fails keeps answer tables old new
+kept_at_fault begins fails keeps tables old new Net is begun = kept_by begins fails keeps tables old new (Fault Net) is begun
+kept_at_fault begins fails keeps tables old new NoMemory is begun = kept_by begins fails keeps tables old new (Fault NoMemory) is (inr begun)
+
+-- the partitions could not be made and filled
+pub kept_unopened : {V : Type 0} {answer : Result Totals Stop} (begins fails : V → V → Type 0) (keeps : V → KeptSeat → V → Type 0) (tables : List KeptSeat) (v : V) (fault : OpenFault)
+    → answer ≡ Err (stop_of fault) → HasKept begins fails keeps answer tables v v
+kept_unopened begins fails keeps tables v open_fault.Refused is = kept_by begins fails keeps tables v v Refused is refl
+kept_unopened begins fails keeps tables v open_fault.NoMemory is = kept_by begins fails keeps tables v v (Fault NoMemory) is (inl refl)
+
 -- a fault that came once that was told
 pub fault_told : {A : Type 0} {answer : Result Totals Stop} (fault : ServeFault) (says fails : A → A → Type 0) (before after : PortFacts) (old new : A) → answer ≡ Err (Fault fault)
     → HasPorts before after → says old new → HasAnnounced says fails answer before after old new
@@ -61,6 +83,7 @@ still_told (Err Refused) says fails before mid after old new net gone told = tol
 still_told (Err (Unbound port)) says fails before mid after old new net gone told = ((net.refused ∙ told.0.0, omega (arith, told.0.1, net.binds, net.first_is)), told.1)
 still_told (Err (Unheard place)) says fails before mid after old new net gone told =
     ((net.refused ∙ told.0.0, subst (Rose before.listens.faults) (sym gone.faults) told.0.1, gone.given ∙ told.0.2), told.1)
+still_told (Err Unkept) says fails before mid after old new net gone told = ((net.refused ∙ told.0.0, gone.faults ∙ told.0.1), told.1)
 still_told (Err Unannounced) says fails before mid after old new net gone told = told
 still_told (Err (Fault Net)) says fails before mid after old new net gone told = ((net.refused ∙ told.0.0, gone.faults ∙ told.0.1), told.1)
 still_told (Err (Fault NoMemory)) says fails before mid after old new net gone told = told
@@ -97,6 +120,7 @@ cause_filled (Ok totals) writes is = is
 cause_filled (Err (Fault fault)) writes is = is
 cause_filled (Err (Unbound port)) writes is = is
 cause_filled (Err (Unheard place)) writes is = is
+cause_filled (Err Unkept) writes is = is
 cause_filled (Err Unannounced) writes is = is
 cause_filled (Err Refused) writes is = absurd is.came_is
 

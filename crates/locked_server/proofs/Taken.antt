@@ -1,8 +1,9 @@
 -- What the partitions took in of all fronts.
 use Rattle.std.proofs.Common.{◌≡◌, ℕ, zero, suc, ◌+◌, ◌≤◌, List, [], ◌∷◌, ◌++◌, length, Option, Some, None, slice_get, slice_set, sym, ap, ◌∙◌, subst, arith}
-use Rattle.std.specs.Prelude.{sum_by}
+use Rattle.std.specs.Prelude.{All, sum_by}
+use Rattle.std.proofs.lemmas.List.Elements.{All-head, All-tail}
 use Rattle.std.proofs.lemmas.List.Sums.{sum_by-cons}
-use Rattle.std.proofs.lemmas.Option.{slice_get_within, same_Some}
+use Rattle.std.proofs.lemmas.Option.{none-some, slice_get_within, same_Some}
 use Rattle.list_laws.proofs.Places.{element_at}
 use Rattle.list_laws.proofs.UpTo.{UpTo, up_one}
 use Rattle.partition_model.specs.History.{IsPrefix}
@@ -14,6 +15,12 @@ use Rattle.locked_front.specs.Owned.{Owned}
 use Rattle.locked_front.specs.Returned.{TookIn}
 use Rattle.locked_server.specs.Taking.{MayTakeIn, MayTakeHand, TakesHand, MayTakeHands, TakesHands}
 use Rattle.locked_server.proofs.Joined.{at_left, at_right}
+
+-- what all of a list are, each is
+pub all_at : {X : Type 0} (P : X → Type 0) (xs : List X) (n : ℕ) (x : X) → All P xs → slice_get xs n ≡ Some x → P x
+all_at P [] n x all at = absurd (none-some x at)
+all_at P (y ∷ ys) zero x all at = subst P (same_Some y x at) (All-head P y ys all)
+all_at P (y ∷ ys) (suc n) x all at = all_at P ys n x (All-tail P y ys all) at
 
 abbrev pub closed_by : Option LockedPart → ℕ
 closed_by None = 0

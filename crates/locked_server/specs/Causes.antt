@@ -1,5 +1,5 @@
 -- What each answer of a server says that was filled, and that tells once it listens at its ports.
-use Rattle.std.specs.Prelude.{◌≡◌, ◌⊎◌, ◌+◌, ◌<◌, ℕ, ⊤, List, [], length, Option, Some, None, option_map, Result, Ok, Err, OnOk}
+use Rattle.std.specs.Prelude.{◌≡◌, ◌⊎◌, ◌+◌, ◌<◌, ℕ, ⊤, List, [], ◌∷◌, length, Option, Some, None, option_map, Result, Ok, Err, OnOk}
 use Rattle.outside.specs.Faults.{Rose}
 use Rattle.outside.specs.declared.net.Net.{Ghosts as NetTells}
 use Rattle.connections.specs.declared.listeners.Listeners.{Ghosts as ListenersTell}
@@ -17,7 +17,7 @@ use Rattle.locked_server.specs.declared.service.Service.{Service}
 use Rattle.locked_server.specs.declared.filling.OpenFault.{OpenFault}
 use Rattle.locked_server.specs.declared.filling.OpenFault.TheVariants as open_fault
 use Rattle.locked_server.specs.declared.stop.Stop.{Stop}
-use Rattle.locked_server.specs.declared.stop.Stop.TheVariants.{Refused, Unbound, Unheard, Unannounced, Fault}
+use Rattle.locked_server.specs.declared.stop.Stop.TheVariants.{Refused, Unbound, Unheard, Unkept, Unannounced, Fault}
 use Rattle.locked_server.specs.Filled.{origin_of, RefusesFilling}
 use Rattle.connections.specs.Shares.{ShareFacts}
 use Rattle.locked_server.specs.Streams.{ListenFacts, HaveFinished, HaveStopped, KeepsListeners, AreStreams, LeavesStreams, counted_by_all, listen_facts, others_of, with_shares}
@@ -38,6 +38,7 @@ CameTo (Ok totals) places shares before after came = came ≡ Some (Ok totals)
 CameTo (Err (Fault fault)) places shares before after came = came ≡ Some (Err fault)
 CameTo (Err (Unbound port)) places shares before after came = (came ≡ Some (Err Net)) × (shares ≡ []) × (after ≡ before)
 CameTo (Err (Unheard place)) places shares before after came = (came ≡ None) × Rose before after × (place ≡ 0) × (shares ≡ [])
+CameTo (Err Unkept) places shares before after came = came ≡ None
 CameTo (Err Unannounced) places shares before after came = came ≡ None
 CameTo (Err Refused) places shares before after came = ⊥
 
@@ -100,6 +101,7 @@ HasAnnounced says fails (Ok totals) before after old new = says old new
 HasAnnounced says fails (Err Refused) before after old new = new ≡ old
 HasAnnounced says fails (Err (Unbound port)) before after old new = LacksPort port before after × (new ≡ old)
 HasAnnounced says fails (Err (Unheard place)) before after old new = LacksPlace place before after × (new ≡ old)
+HasAnnounced says fails (Err Unkept) before after old new = HasPorts before after × (new ≡ old)
 HasAnnounced says fails (Err Unannounced) before after old new = fails old new
 HasAnnounced says fails (Err (Fault Net)) before after old new = HasPorts before after × says old new
 HasAnnounced says fails (Err (Fault NoMemory)) before after old new = (new ≡ old) ⊎ says old new
@@ -111,3 +113,19 @@ pub record Leaves {A : Type 0} (says fails : PortOptions → ℕ → A → A →
   pub heard : KeepsListeners count service.places before.listens after.listens
   pub all : OnOk answer (count ≡ service.places)
   pub announced : HasAnnounced (says service.ports service.places) (fails service.ports service.places) answer before after old new
+
+-- It was shown these, one after another.
+abbrev pub ShownAll : {V : Type 0} → (V → KeptSeat → V → Type 0) → V → List KeptSeat → V → Type 0
+ShownAll keeps old [] new = new ≡ old
+ShownAll {V} keeps old (seat ∷ seats) new = (mid : V) × keeps old seat mid × ShownAll keeps mid seats new
+
+-- What became of who keeps what is left. It begins once there are all ports, before that is told and before anything is received; and it is shown each seat that is kept.
+abbrev pub HasKept : {V : Type 0} → (V → V → Type 0) → (V → V → Type 0) → (V → KeptSeat → V → Type 0) → Result Totals Stop → List KeptSeat → V → V → Type 0
+HasKept {V} begins fails keeps (Ok totals) tables old new = (mid : V) × begins old mid × ShownAll keeps mid tables new
+HasKept begins fails keeps (Err Refused) tables old new = new ≡ old
+HasKept begins fails keeps (Err (Unbound port)) tables old new = new ≡ old
+HasKept begins fails keeps (Err (Unheard place)) tables old new = new ≡ old
+HasKept begins fails keeps (Err Unkept) tables old new = fails old new
+HasKept begins fails keeps (Err Unannounced) tables old new = begins old new
+HasKept begins fails keeps (Err (Fault Net)) tables old new = begins old new
+HasKept begins fails keeps (Err (Fault NoMemory)) tables old new = (new ≡ old) ⊎ begins old new

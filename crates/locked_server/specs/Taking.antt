@@ -1,8 +1,9 @@
 -- Partitions that were taken back from their locks, and what they take in of the fronts.
-use Rattle.std.specs.Prelude.{◌≡◌, ℕ, List, [], ◌∷◌, length, slice_get, Some}
+use Rattle.std.specs.Prelude.{◌≡◌, ℕ, List, [], ◌∷◌, length, slice_get, Some, All}
 use Rattle.atomic_table.specs.Seated.{TableId}
 use Rattle.partition_words.specs.declared.state.OwnerState.{OwnerState}
 use Rattle.partition_table.specs.Seats.{reader_home}
+use Rattle.fronts.specs.Flushes.{AreKept}
 use Rattle.locked_front.specs.declared.returned.Returned.{Returned}
 use Rattle.locked_front.specs.declared.part.LockedPart.{LockedPart}
 use Rattle.locked_front.specs.Plan.{Plan}
@@ -16,6 +17,13 @@ left_view owner home left = owned_as left.number (home left.part) (owner left.pa
 -- one for each partition, in order
 pub record AreTakenBack (plan : Plan) (all : List Owned) : Type 0 where
   pub each : (p : ℕ) (left : Owned) → slice_get all p ≡ Some left → (left.number ≡ p) × IsOwned plan left
+
+-- What was counted of a partition is of its history.
+abbrev pub IsCounted : {P : Type 0} → (P → OwnerState) → Returned P → Type 0
+IsCounted owner left = AreKept (owner left.part).shape.hashing (owner left.part).shape.buckets (owner left.part).history left.flushes
+
+abbrev pub AreCounted : {P : Type 0} → (P → OwnerState) → List (Returned P) → Type 0
+AreCounted owner parts = All (IsCounted owner) parts
 
 -- each of these is what a front of its place has
 abbrev pub AreHands : Plan → List (List LockedPart) → Type 0

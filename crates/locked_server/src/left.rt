@@ -3,22 +3,26 @@ ghost use Rattle.std.specs.Prelude.{◌≡◌, []};
 
 use partition_table::Tables;
 
-/// The owners' seats, in the order of the partitions, where no front failed; and for how many connections there was no memory, whatever the server came to.
+/// The owners' seats, in the order of the partitions, where no front failed, and who was shown them; and for how many connections there was no memory, whatever
+/// the server came to.
 #[derive(Drop)]
-pub struct Left {
+pub struct Left<V> {
     pub tables: Tables,
     pub lacked: u64,
+    pub keeper: V,
 }
 
-impl Left {
+impl<V: Drop> Left<V> {
     /// Nothing, as before a server begins.
-    pub fn nothing() -> Left
+    pub fn nothing(keeper: V) -> Left<V>
         ensures tables { result.tables ≡ [] }
         ensures uncounted { result.lacked ≡ 0 }
+        ensures keeper { result.keeper ≡ keeper }
     {
         Left {
             tables: Tables::new(),
             lacked: 0,
+            keeper,
         }
     }
 }

@@ -7,6 +7,7 @@
 mod announce;
 mod answers;
 mod filling;
+mod keep;
 mod left;
 mod listening;
 mod opening;
@@ -20,8 +21,9 @@ mod worker;
 
 pub use announce::Announce;
 pub use filling::OpenFault;
+pub use keep::Keeps;
 pub use left::Left;
 pub use opening::{FilledPart, lend_hand, lock_parts, open_parts};
 pub use serve::serve_locked;
 pub use service::{Service, Shared};
-pub use stop::{Stop, Untold};
+pub use stop::{Stop, Unkept, Untold};

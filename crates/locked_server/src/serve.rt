@@ -8,11 +8,12 @@ ghost use Rattle.served.specs.Ends.{end_facts};
 ghost use Rattle.served.specs.NetRun.{BindsAndServes, net_facts};
 ghost use Rattle.locked_server.specs.Service.{IsPossibleService, IsPlanOf};
 ghost use Rattle.locked_server.specs.Streams.{HasPlace, KeepsListeners, listen_facts, stream_facts};
-ghost use Rattle.locked_server.specs.Causes.{ComesBeside, HasCause, IsCauseOfStop, HasAnnounced, Leaves, ports_at};
+ghost use Rattle.locked_server.specs.Causes.{ComesBeside, HasCause, IsCauseOfStop, HasAnnounced, HasKept, Leaves, ports_at};
 ghost use Rattle.locked_server.specs.Opening.{ArePlanned, filled_view};
 ghost use Rattle.locked_server.specs.Server.{IsLockedServer};
 
 use crate::announce::Announce;
+use crate::keep::Keeps;
 use crate::left::Left;
 use crate::listening::{listen_all, release_streams};
 use crate::opening::{FilledPart, makers_of, open_parts};
@@ -43,6 +44,7 @@ fn bind_and_serve<
     L: Listeners,
     G: Gate,
     A: Announce,
+    V: Keeps,
 >(
     shared: &Shared<W, G>,
     server: LockedServer<J, P, N::End, L::Port>,
@@ -51,7 +53,7 @@ fn bind_and_serve<
     listeners: &mut L,
     connections: &mut Vec<L::Port>,
     announce: &mut A,
-    left: &mut Left,
+    left: &mut Left<V>,
 ) -> Result<Totals, Stop>
     requires same { (p : P) → P.state p ≡ P.owner p }
     requires service { IsPossibleService shared.now.service }
@@ -75,6 +77,7 @@ fn bind_and_serve<
     ensures heard { KeepsListeners (vec_len connections.new) shared.now.service.places (listen_facts L.Listeners listeners.old) (listen_facts L.Listeners listeners.new) }
     ensures announced { HasAnnounced (A.says shared.now.service.ports shared.now.service.places) (A.fails shared.now.service.ports shared.now.service.places) result
         (ports_at N.Net L.Listeners net.old listeners.old) (ports_at N.Net L.Listeners net.new listeners.new) announce.old announce.new }
+    ensures kept { HasKept V.begins V.fails V.keeps result left.new.tables left.old.keeper left.new.keeper }
 {
     let ports = &shared.service.ports;
     let places = shared.service.places;
@@ -86,6 +89,7 @@ fn bind_and_serve<
         Ok(()) => {}
         Err(_) => return Err(Stop::Unheard(0)),
     }
+    left.keeper.begin()?;
     announce.ready(ports, places, ends.as_slice(), connections.as_slice())?;
     let totals = serve_all(shared, server, ends, connections, left)?;
     Ok(totals)
@@ -100,13 +104,14 @@ fn serve_named<
     L: Listeners,
     G: Gate,
     A: Announce,
+    V: Keeps,
 >(
     shared: &Shared<W, G>,
     parts: Vec<FilledPart<P>>,
     net: &mut N,
     listeners: &mut L,
     announce: &mut A,
-    left: &mut Left,
+    left: &mut Left<V>,
 ) -> Result<Totals, Stop>
     requires notes { NotesAre P.noted P.note_home note_state note_home }
     requires same { (p : P) → P.state p ≡ P.owner p }
@@ -121,6 +126,7 @@ fn serve_named<
         (ports_at N.Net L.Listeners net.old listeners.old) (ports_at N.Net L.Listeners net.new listeners.new) }
     ensures leaves { Leaves A.says A.fails result shared.now.service
         (ports_at N.Net L.Listeners net.old listeners.old) (ports_at N.Net L.Listeners net.new listeners.new) announce.old announce.new }
+    ensures kept { HasKept V.begins V.fails V.keeps result left.new.tables left.old.keeper left.new.keeper }
 {
     let service = &shared.service;
     let server = LockedServer::<J, P, N::End, L::Port>::new(shared.alloc, service, parts)?;
@@ -149,13 +155,14 @@ fn serve_on<
     L: Listeners,
     G: Gate,
     A: Announce,
+    V: Keeps,
 >(
     shared: &Shared<W, G>,
     filling: Vec<Write>,
     net: &mut N,
     listeners: &mut L,
     announce: &mut A,
-    left: &mut Left,
+    left: &mut Left<V>,
 ) -> Result<Totals, Stop>
     requires notes { NotesAre P.noted P.note_home note_state note_home }
     requires same { (p : P) → P.state p ≡ P.owner p }
@@ -170,6 +177,7 @@ fn serve_on<
         (ports_at N.Net L.Listeners net.old listeners.old) (ports_at N.Net L.Listeners net.new listeners.new) }
     ensures leaves { Leaves A.says A.fails result shared.now.service
         (ports_at N.Net L.Listeners net.old listeners.old) (ports_at N.Net L.Listeners net.new listeners.new) announce.old announce.new }
+    ensures kept { HasKept V.begins V.fails V.keeps result left.new.tables left.old.keeper left.new.keeper }
 {
     let service = &shared.service;
     let fronts = service.places + service.ports.fronts;
@@ -182,19 +190,19 @@ fn serve_on<
         filling.as_slice(),
     )?;
     drop(filling);
-    serve_named::<Brand, W, P, N, L, G, A>(shared, parts, net, listeners, announce, left)
+    serve_named::<Brand, W, P, N, L, G, A, V>(shared, parts, net, listeners, announce, left)
 }
 
 /// Fills the partitions by these writes, binds a port for each front of datagrams, listens at the place of connections for a share for each front of these, and tells
 /// so. Then all fronts run side by side, each in a thread of its own, and each is the owner of a partition for as long as one write takes. All ends and shares are released. The owners' seats are kept, in the order of the partitions, where no front failed. Whatever
 /// the answer, `left.lacked` says how many connections were closed since there was no memory for them.
-pub fn serve_locked<W: Threads + Wait + Sync, N: Net, L: Listeners, G: Gate, A: Announce>(
+pub fn serve_locked<W: Threads + Wait + Sync, N: Net, L: Listeners, G: Gate, A: Announce, V: Keeps>(
     shared: &Shared<W, G>,
     filling: Vec<Write>,
     net: &mut N,
     listeners: &mut L,
     announce: &mut A,
-    left: &mut Left,
+    left: &mut Left<V>,
 ) -> Result<Totals, Stop>
     requires service { IsPossibleService shared.now.service }
     requires filling { All IsWrite filling.items }
@@ -207,12 +215,13 @@ pub fn serve_locked<W: Threads + Wait + Sync, N: Net, L: Listeners, G: Gate, A: 
         (ports_at N.Net L.Listeners net.old listeners.old) (ports_at N.Net L.Listeners net.new listeners.new) }
     ensures leaves { Leaves A.says A.fails result shared.now.service
         (ports_at N.Net L.Listeners net.old listeners.old) (ports_at N.Net L.Listeners net.new listeners.new) announce.old announce.new }
+    ensures kept { HasKept V.begins V.fails V.keeps result left.new.tables left.old.keeper left.new.keeper }
 {
     match shared.service.options.mode {
-        Mode::Cache => serve_on::<W, CachePartition<OwnerSeat>, N, L, G, A>(
+        Mode::Cache => serve_on::<W, CachePartition<OwnerSeat>, N, L, G, A, V>(
             shared, filling, net, listeners, announce, left,
         ),
-        Mode::Store => serve_on::<W, StorePartition<OwnerSeat>, N, L, G, A>(
+        Mode::Store => serve_on::<W, StorePartition<OwnerSeat>, N, L, G, A, V>(
             shared, filling, net, listeners, announce, left,
         ),
     }

@@ -1,5 +1,5 @@
 //! The partitions under their locks and the fronts before them, opened and run.
-ghost use Rattle.std.specs.Prelude.{◌≡◌, ◌+◌, ◌<◌, ◌≤◌, ℕ, true, [], IfOk, Some, length, map, slice_get, vec_len};
+ghost use Rattle.std.specs.Prelude.{◌≡◌, ◌+◌, ◌<◌, ◌≤◌, ℕ, true, [], IfOk, OnOk, OnErr, Some, length, map, slice_get, vec_len};
 ghost use Rattle.mica_words.specs.Mark.{has_marks};
 ghost use Rattle.partition_model.specs.declared.options.TheConstants.{MOST_PARTITIONS};
 ghost use Rattle.partition_model.specs.History.{IsHistory};
@@ -13,10 +13,12 @@ ghost use Rattle.locked_server.specs.Service.{IsPossibleService, IsPlanOf};
 ghost use Rattle.locked_server.specs.Opening.{ArePlanned, filled_view};
 ghost use Rattle.locked_server.specs.Streams.{AreUnserved, ServesBeside, stream_facts};
 ghost use Rattle.locked_server.specs.Running.{RanBeside};
-ghost use Rattle.locked_server.specs.Taking.{left_view};
+ghost use Rattle.locked_server.specs.Causes.{ShownAll};
+ghost use Rattle.locked_server.specs.Taking.{AreCounted, left_view};
 ghost use Rattle.locked_server.specs.Server.{IsKindRoom, IsRoom, IsLockedServer};
 
 use crate::answers::sum_up_beside;
+use crate::keep::Keeps;
 use crate::left::Left;
 use crate::opening::{FilledPart, lend_hands, lock_parts};
 use crate::service::{Service, Shared};
@@ -176,6 +178,7 @@ fn run_all<
         (map (end_facts D.Datagrams) ends.old.items) (map (end_facts D.Datagrams) ends.new.items)
         (map (stream_facts C.Connections) connections.old.items) (map (stream_facts C.Connections) connections.new.items) }
     ensures idle { (p : ℕ) (left : Owned) → slice_get (map (λ part. left_view P.owner P.home part) result.parts.items) p ≡ Some left → left.owner.phase ≡ Idle }
+    ensures counted { AreCounted P.owner result.parts.items }
 {
     let LockedServer {
         locks,
@@ -214,7 +217,7 @@ fn run_all<
     }
 }
 
-/// Serves all ports and places side by side, and keeps the owners' seats where no front failed. Says for how many connections there was no memory, whatever the answer.
+/// Serves all ports and places side by side, and shows and keeps the owners' seats where no front failed. Says for how many connections there was no memory, whatever the answer.
 pub(crate) fn serve_all<
     W: Threads + Wait + Sync,
     J: ServerPlan + Send + Sync,
@@ -222,12 +225,13 @@ pub(crate) fn serve_all<
     D: Datagrams + Drop + Send,
     C: Connections + Send,
     G: Gate,
+    V: Keeps,
 >(
     shared: &Shared<W, G>,
     server: LockedServer<J, P, D, C>,
     ends: &mut Vec<D>,
     connections: &mut Vec<C>,
-    left: &mut Left,
+    left: &mut Left<V>,
 ) -> Result<Totals, ServeFault>
     requires same { (p : P) → P.state p ≡ P.owner p }
     requires service { IsPossibleService shared.now.service }
@@ -240,7 +244,9 @@ pub(crate) fn serve_all<
     requires tables { left.old.tables ≡ [] }
     requires unserved { AreOpen (map (end_facts D.Datagrams) ends.old.items) }
     requires fresh { AreUnserved (map (stream_facts C.Connections) connections.old.items) }
-    ensures { ServesBeside shared.now.service.options J.plan.origin shared.now.service.ports.batches shared.now.service.base shared.now.service.buffers result left.new.tables left.new.lacked
+    ensures shown { OnOk result (ShownAll V.keeps left.old.keeper left.new.tables left.new.keeper) }
+    ensures unshown { OnErr result (left.new.keeper ≡ left.old.keeper) }
+    ensures serves { ServesBeside shared.now.service.options J.plan.origin shared.now.service.ports.batches shared.now.service.base shared.now.service.buffers result left.new.tables left.new.lacked
         (map (end_facts D.Datagrams) ends.old.items) (map (end_facts D.Datagrams) ends.new.items)
         (map (stream_facts C.Connections) connections.old.items) (map (stream_facts C.Connections) connections.new.items) }
 {
@@ -252,6 +258,6 @@ pub(crate) fn serve_all<
     } = run_all(shared, server, ends, connections);
     left.lacked = lacked;
     let totals = sum_up_beside(streams.as_slice(), fronts.as_slice())?;
-    keep_all(parts, &mut left.tables);
+    keep_all(parts, left);
     Ok(totals)
 }

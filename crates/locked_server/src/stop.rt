@@ -17,10 +17,16 @@ pub enum Stop {
     Unbound(u16),
     /// The place of this number could not be listened at. Nothing was received.
     Unheard(u32),
+    /// The ports were bound, and who keeps what is left could not begin. Nothing was told, and nothing was received.
+    Unkept,
     /// The ports were bound, and what was to be told then could not be told. Nothing was received.
     Unannounced,
     Fault(ServeFault),
 }
+
+/// Who keeps what is left could not begin.
+#[derive(Clone, Copy, Debug)]
+pub struct Unkept;
 
 /// What was to be told could not be told.
 #[derive(Clone, Copy, Debug)]
@@ -32,9 +38,16 @@ impl fmt::Display for Stop {
             Stop::Refused => fmt::Display::fmt(&OpenFault::Refused, f),
             Stop::Unbound(port) => write!(f, "port {port} could not be bound"),
             Stop::Unheard(place) => write!(f, "place {place} could not be listened at"),
+            Stop::Unkept => fmt::Display::fmt(&Unkept, f),
             Stop::Unannounced => fmt::Display::fmt(&Untold, f),
             Stop::Fault(fault) => fmt::Display::fmt(fault, f),
         }
+    }
+}
+
+impl fmt::Display for Unkept {
+    fn fmt<W: fmt::Write>(&self, f: &mut fmt::Formatter<W>) -> fmt::Result {
+        f.write_str("what is left could not be kept")
     }
 }
 
@@ -46,7 +59,19 @@ impl fmt::Display for Untold {
 
 impl Error for Stop {}
 
+impl Error for Unkept {}
+
 impl Error for Untold {}
+
+impl From<Unkept> for Stop {
+    ghost use Rattle.locked_server.specs.declared.stop.Stop.TheVariants.{Unkept};
+
+    ghost from_gives = { λ _ e. e ≡ Unkept };
+
+    fn from(_: Unkept) -> Self {
+        Stop::Unkept
+    }
+}
 
 impl From<Untold> for Stop {
     ghost use Rattle.locked_server.specs.declared.stop.Stop.TheVariants.{Unannounced};

@@ -4,11 +4,14 @@ ghost use Rattle.partition_model.specs.declared.options.TheConstants.{MOST_PARTI
 ghost use Rattle.partition_words.specs.declared.state.Phase.TheVariants.{Idle};
 ghost use Rattle.partition_table.specs.Tabled.{kept_seat_in};
 ghost use Rattle.locked_front.specs.Owned.{Owned, IsOwned};
-ghost use Rattle.locked_server.specs.Taking.{AreHands, AreTakenBack, TakesBack, MayTakeHand, TakesHand, MayTakeHands, TakesHands, left_view};
+ghost use Rattle.locked_server.specs.Causes.{ShownAll};
+ghost use Rattle.locked_server.specs.Taking.{AreHands, AreTakenBack, AreCounted, TakesBack, MayTakeHand, TakesHand, MayTakeHands, TakesHands, left_view};
 
+use crate::keep::Keeps;
+use crate::left::Left;
 use any_partition::OnTable;
-use locked_front::{LockedPart, PartitionLocks, Returned, ServerPlan};
-use partition_table::{Note, ReaderSeat, Tables};
+use locked_front::{HistoryCounts, LockedPart, PartitionLocks, Returned, ServerPlan};
+use partition_table::{Note, ReaderSeat};
 use partition_words::LendPartition;
 use std::sync::Wait;
 
@@ -23,6 +26,7 @@ fn take_all_back<R: Wait, J: ServerPlan, P: LendPartition<Reader = ReaderSeat, N
     requires few { locks ≤ MOST_PARTITIONS }
     ensures many { length parts.new.items ≡ locks }
     ensures each { AreTakenBack J.plan (map (λ part. left_view P.owner P.home part) parts.new.items) }
+    ensures counted { AreCounted P.owner parts.new.items }
 {
     for lock in locks.into_locks() {
         parts.push_reserved(lock.into_inner(rt).give_back());
@@ -34,8 +38,10 @@ fn take_hand<P: LendPartition<Reader = ReaderSeat, Note = Note> + Drop>(
     parts: &mut Vec<Returned<P>>,
     hand: Vec<LockedPart>,
 )
-    requires { MayTakeHand (map (λ part. left_view P.owner P.home part) parts.old.items) hand.items }
-    ensures { TakesHand (map (λ part. left_view P.owner P.home part) parts.old.items) (map (λ part. left_view P.owner P.home part) parts.new.items) hand.items }
+    requires may { MayTakeHand (map (λ part. left_view P.owner P.home part) parts.old.items) hand.items }
+    requires counted { AreCounted P.owner parts.old.items }
+    ensures counted { AreCounted P.owner parts.new.items }
+    ensures took { TakesHand (map (λ part. left_view P.owner P.home part) parts.old.items) (map (λ part. left_view P.owner P.home part) parts.new.items) hand.items }
 {
     let mut at = 0;
     for own in hand {
@@ -50,8 +56,10 @@ fn take_hands<P: LendPartition<Reader = ReaderSeat, Note = Note> + Drop>(
     parts: &mut Vec<Returned<P>>,
     hands: Vec<Vec<LockedPart>>,
 )
-    requires { MayTakeHands (map (λ part. left_view P.owner P.home part) parts.old.items) (map (λ hand. hand.items) hands.items) }
-    ensures { TakesHands (map (λ part. left_view P.owner P.home part) parts.old.items) (map (λ part. left_view P.owner P.home part) parts.new.items) (map (λ hand. hand.items) hands.items) }
+    requires may { MayTakeHands (map (λ part. left_view P.owner P.home part) parts.old.items) (map (λ hand. hand.items) hands.items) }
+    requires counted { AreCounted P.owner parts.old.items }
+    ensures counted { AreCounted P.owner parts.new.items }
+    ensures took { TakesHands (map (λ part. left_view P.owner P.home part) parts.old.items) (map (λ part. left_view P.owner P.home part) parts.new.items) (map (λ hand. hand.items) hands.items) }
 {
     for hand in hands {
         take_hand(parts, hand);
@@ -75,25 +83,31 @@ pub(crate) fn take_in_all<
     requires few { locks ≤ MOST_PARTITIONS }
     requires many { locks ≡ J.plan.options.partitions }
     requires hands { AreHands J.plan (map (λ hand. hand.items) stream_hands.items ++ map (λ hand. hand.items) hands.items) }
-    ensures { TakesBack J.plan (map (λ hand. hand.items) stream_hands.items ++ map (λ hand. hand.items) hands.items) (map (λ part. left_view P.owner P.home part) parts.new.items) }
+    ensures counted { AreCounted P.owner parts.new.items }
+    ensures back { TakesBack J.plan (map (λ hand. hand.items) stream_hands.items ++ map (λ hand. hand.items) hands.items) (map (λ part. left_view P.owner P.home part) parts.new.items) }
 {
     take_all_back(rt, locks, parts);
     take_hands(parts, stream_hands);
     take_hands(parts, hands);
 }
 
-/// Keeps the owners' seats, in order.
-pub(crate) fn keep_all<P: OnTable + LendPartition<Reader = ReaderSeat, Note = Note>>(
+/// Shows the owners' seats to the keeper, and keeps them, in order.
+pub(crate) fn keep_all<P: OnTable + LendPartition<Reader = ReaderSeat, Note = Note>, V: Keeps>(
     parts: Vec<Returned<P>>,
-    tables: &mut Tables,
+    left: &mut Left<V>,
 )
     requires same { (p : P) → P.state p ≡ P.owner p }
-    requires room { length tables.old + length parts.items ≤ MOST_PARTITIONS }
-    requires idle { (p : ℕ) (left : Owned) → slice_get (map (λ part. left_view P.owner P.home part) parts.items) p ≡ Some left → left.owner.phase ≡ Idle }
-    ensures { tables.new ≡ tables.old ++ map (λ left. kept_seat_in left.owner) (map (λ part. left_view P.owner P.home part) parts.items) }
+    requires room { length left.old.tables + length parts.items ≤ MOST_PARTITIONS }
+    requires idle { (p : ℕ) (part : Owned) → slice_get (map (λ part. left_view P.owner P.home part) parts.items) p ≡ Some part → part.owner.phase ≡ Idle }
+    requires counted { AreCounted P.owner parts.items }
+    ensures tables { left.new.tables ≡ left.old.tables ++ map (λ part. kept_seat_in part.owner) (map (λ part. left_view P.owner P.home part) parts.items) }
+    ensures lacked { left.new.lacked ≡ left.old.lacked }
+    ensures shown { ShownAll V.keeps left.old.keeper (map (λ part. kept_seat_in part.owner) (map (λ part. left_view P.owner P.home part) parts.items)) left.new.keeper }
 {
     let mut rest = parts.into_iter();
-    while let Some(left) = rest.next() {
-        tables.keep(left.part.into_seat());
+    while let Some(back) = rest.next() {
+        let counts = HistoryCounts::of(&back.part, &back.flushes);
+        let seat = left.keeper.show(back.part.into_seat(), counts);
+        left.tables.keep(seat);
     }
 }

@@ -9,13 +9,14 @@ use crate::host_causes::{doubt_text, refused_text};
 use crate::host_doors::Asked;
 use crate::host_files::HostFiles;
 use crate::host_start::begin;
-use daemon::{DaemonStatus, Ending, Machine, Process, Speaker, exit_code, run_daemon};
+use daemon::{DaemonStatus, Ending, Keeper, Machine, Process, Speaker, exit_code, run_daemon};
 use daemon_words::Host;
 use host_outside::{StdClock, StdSink, UdpNet};
 use locked_server::Left;
 use memcached_stats::Board;
 use outside::{FreeGate, NoMemory, rehearse};
 use std::env::Args;
+use std::fs::File;
 use std::net::Net as Sockets;
 use std::process::ExitCode;
 use std::random::RandomSource;
@@ -97,10 +98,9 @@ pub fn host_of<R: Threads + RandomSource>(rt: &R) -> Option<Host> {
 }
 
 /// What the program ends with before it serves: where it may not begin, or there is no thread for the look for signals.
-pub fn refused_on_host<R: Threads + Wait + Sync + AllocGlobal + Env + Eprint + Files + Sockets>(
-    rt: &R,
-    machine: Machine,
-) -> Option<ExitCode>
+pub fn refused_on_host<
+    R: Threads + Wait + Sync + AllocGlobal + Env + Eprint + Files<File = File> + Sockets,
+>(rt: &R, machine: Machine) -> Option<ExitCode>
     ensures ends { IfSome result (λ code. (words : Option (List (List ℕ))) → EndsBy words (exit_status code)) }
     ensures in_vain { IfSome result (λ code. 0 < exit_status code) }
 {
@@ -116,7 +116,15 @@ pub fn refused_on_host<R: Threads + Wait + Sync + AllocGlobal + Env + Eprint + F
 /// Answers the words that the program was started with, or serves by them, at the doors that they ask for beside the place's own, and then says why that ended. It ends with 0 where these ask a question, and where a
 /// signal asked for its end. `main` runs it beside the look for signals: a handle that opens files goes to a thread only there.
 pub fn run_on_host<
-    R: Threads + Wait + Sync + AllocGlobal + Eprint + Files + Print + Sockets + time::Clock,
+    R: Threads
+        + Wait
+        + Sync
+        + AllocGlobal
+        + Eprint
+        + Files<File = File>
+        + Print
+        + Sockets
+        + time::Clock,
 >(rt: &R, args: io::Result<Args>, machine: Machine, flags: &Flags, asked: Asked) -> ExitCode
     ensures { EndsBy (words_of string_bytes args) (exit_status result) }
 {
@@ -145,7 +153,7 @@ pub fn run_on_host<
         &mut speaker,
         &mut UdpNet::failing_whole(rt, &flags.ended, &flags.stopping),
         &mut listeners,
-        &mut Left::nothing(),
+        &mut Left::nothing(Keeper::new(clock)),
     );
     say_why(rt, &speaker, listeners.refused());
     flags.over.store(true, Ordering::Relaxed);

@@ -3,9 +3,10 @@ ghost use Rattle.std.specs.Prelude.{◌≡◌};
 
 use daemon::{Files, SystemFiles, free_by};
 use host_outside::StdSource;
-use outside::{ReadFault, read_up_to};
+use host_place::HostPlace;
+use outside::{NoMemory, ReadFault, read_up_to};
 use std::alloc::Global;
-use std::fs;
+use std::fs::{self, File};
 use std::rt::Files as FileSystem;
 
 /// The files of this machine. No contract can tell what lies under a name there.
@@ -15,7 +16,7 @@ pub struct HostFiles<'a, R> {
     faults: u64,
 }
 
-impl<'a, R: FileSystem> HostFiles<'a, R> {
+impl<'a, R: FileSystem<File = File>> HostFiles<'a, R> {
     /// The files of this machine.
     pub fn new(rt: &'a R) -> HostFiles<'a, R>
         ensures { ⟦<HostFiles<'a, R> as Files>⟧.faults result ≡ 0 }
@@ -32,10 +33,14 @@ impl<'a, R: FileSystem> SystemFiles for HostFiles<'a, R> {
     }
 }
 
-impl<'a, R: FileSystem> Files for HostFiles<'a, R> {
+impl<'a, R: FileSystem<File = File>> Files for HostFiles<'a, R> {
+    type Place = HostPlace<'a, R>;
+
     ghost use Rattle.std.specs.Prelude.{None};
 
     ghost file = { λ _ _. None };
+
+    ghost place = { λ _ _. None };
 
     ghost faults = { λ f. f.faults };
 
@@ -45,6 +50,10 @@ impl<'a, R: FileSystem> Files for HostFiles<'a, R> {
 
     fn free_memory(&self, alloc: Global) -> Option<u64> {
         free_by(alloc, self)
+    }
+
+    fn place(&self, alloc: Global, name: &str) -> Result<HostPlace<'a, R>, NoMemory> {
+        HostPlace::new(alloc, self.rt, name)
     }
 
     fn read(&mut self, alloc: Global, name: &str, limit: usize) -> Result<Vec<u8>, ReadFault> {

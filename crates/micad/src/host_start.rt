@@ -2,17 +2,18 @@
 
 use crate::host_doors::has_doors;
 use crate::host_files::HostFiles;
-use crate::host_stop::say_unseen;
+use crate::host_stop::{has_stop, say_unseen};
 use daemon::{Machine, is_run_by, start_text};
 use daemon_words::value_given;
 use option_words::{all_words, behind_name};
 use outside::NoMemory;
 use std::alloc::Global;
+use std::env;
+use std::fs::{self, File};
 use std::rt::{Env, Files};
-use std::{env, fs};
 
 // Whether the process has the rights of the user that words name, where they name one. Else it says so.
-fn has_user<R: Eprint + Files>(
+fn has_user<R: Eprint + Files<File = File>>(
     rt: &R,
     alloc: Global,
     system: &HostFiles<'_, R>,
@@ -30,7 +31,12 @@ fn has_user<R: Eprint + Files>(
 }
 
 // Writes the number of the process into the file that words name for it.
-fn write_process<R: Eprint + Files>(rt: &R, alloc: Global, words: &[String], process: u32) {
+fn write_process<R: Eprint + Files<File = File>>(
+    rt: &R,
+    alloc: Global,
+    words: &[String],
+    process: u32,
+) {
     let Some(name) = value_given(words, "-P") else {
         return;
     };
@@ -44,7 +50,7 @@ fn write_process<R: Eprint + Files>(rt: &R, alloc: Global, words: &[String], pro
 }
 
 /// Says what a server begins with, where words give one, and writes its number where they want it. Whether it may begin.
-pub fn begin<R: AllocGlobal + Env + Eprint + Files>(rt: &R, machine: Machine) -> bool {
+pub fn begin<R: AllocGlobal + Env + Eprint + Files<File = File>>(rt: &R, machine: Machine) -> bool {
     let alloc = rt.alloc();
     let words = match all_words(alloc, env::args(rt)) {
         Ok(words) => words,
@@ -59,6 +65,9 @@ pub fn begin<R: AllocGlobal + Env + Eprint + Files>(rt: &R, machine: Machine) ->
         return true;
     };
     if !has_user(rt, alloc, &system, words) {
+        return false;
+    }
+    if value_given(words, "--save").is_some() && !has_stop(rt, alloc) {
         return false;
     }
     write_process(rt, alloc, words, machine.process);

@@ -7,6 +7,7 @@ use daemon::{stop_signals, work_done};
 use host_outside::StdClock;
 use outside::Clock;
 use std::alloc::Global;
+use std::fs::File;
 use std::rt::Files;
 use std::sync::Wait;
 use std::sync::atomic::Ordering;
@@ -19,8 +20,22 @@ const LOOK_MILLIS: u64 = 100;
 /// So many looks for signals there are for one at the work of processors.
 const LOOKS_AT_WORK: u32 = 10;
 
+/// Whether INT and TERM are blocked, as they must be where items are to be saved at the end. Else it says so.
+pub fn has_stop<R: Eprint + Files<File = File>>(rt: &R, alloc: Global) -> bool {
+    let are_blocked = match stop_signals(alloc, &HostFiles::new(rt)) {
+        Some(signals) => signals.are_blocked,
+        None => false,
+    };
+    if !are_blocked {
+        let _ = eprintln!(rt;
+            "micad: --save: INT and TERM are not blocked, so nothing would be saved: start it by micad-launch"
+        );
+    }
+    are_blocked
+}
+
 /// Says so where INT and TERM are not blocked: then they end the process at once, and nobody sees them come.
-pub fn say_unseen<R: Eprint + Files>(rt: &R, alloc: Global) {
+pub fn say_unseen<R: Eprint + Files<File = File>>(rt: &R, alloc: Global) {
     let are_blocked = match stop_signals(alloc, &HostFiles::new(rt)) {
         Some(signals) => signals.are_blocked,
         None => false,
@@ -57,7 +72,11 @@ fn look_at_work<R: Files>(system: &HostFiles<'_, R>, alloc: Global, flags: &Flag
 
 /// Looks again and again whether INT or TERM waits, and tells by the flags that one does; and tells what goes wrong meanwhile, and how much processors worked. It ends soon after the server has ended: at
 /// first it looks often, since words that are refused end at once.
-pub fn watch<R: Eprint + Files + Wait + time::Clock>(rt: &R, alloc: Global, flags: &Flags) {
+pub fn watch<R: Eprint + Files<File = File> + Wait + time::Clock>(
+    rt: &R,
+    alloc: Global,
+    flags: &Flags,
+) {
     let system = HostFiles::new(rt);
     let mut clock = StdClock::new(rt);
     let mut journal = Journal::new(&flags.board, &flags.doors);

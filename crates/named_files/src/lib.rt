@@ -8,8 +8,10 @@ mod beside;
 mod memory;
 mod place;
 mod replacing;
+mod steady;
 
 pub use beside::Beside;
 pub use memory::MemPlace;
 pub use place::Place;
 pub use replacing::{put_in_place, replace, use_up};
+pub use steady::{Stands, SteadyBeside};

@@ -72,8 +72,9 @@ impl MemPlace {
         is_free: bool,
         fails: &[u32],
     ) -> Result<Self, NoMemory>
-        ensures { IfOk result (λ place. state_in place
+        ensures state { IfOk result (λ place. state_in place
             ≡ record { past = []; now = settled (option_map (λ bytes. bytes.now) file.entry); first = 0; beside = []; kept = 0 }) }
+        ensures faults { IfOk result (λ place. place.faults ≡ 0) }
     {
         Ok(MemPlace {
             alloc,

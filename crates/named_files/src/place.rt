@@ -9,7 +9,7 @@ use std::alloc::Global;
 /// A file by its name, one beside it that is to take its name, and a lock.
 pub trait Place {
     /// The file, opened for who reads it.
-    type Opened: Source;
+    type Opened: Source + Drop;
 
     /// What the names stand for and what is on the disk, where the place tells it.
     ghost state: { Self → Option FileState };

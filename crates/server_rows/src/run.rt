@@ -3,10 +3,10 @@
 use crate::overheard::{Overheard, OverheardListeners, Port};
 use anyhow::Result;
 use connections::{Change, Step};
-use daemon::{MemFiles, Process, Speaker, Start, answer_or_serve, ending_number, free_by};
+use daemon::{Keeper, MemFiles, Process, Speaker, Start, answer_or_serve, ending_number, free_by};
 use daemon_words::Host;
 use locked_server::Left;
-use memory_outside::{MemNet, MemSink};
+use memory_outside::{MemClock, MemNet, MemSink};
 use outside::{Bytes, NoMemory};
 use row_parts::{Entry, Row, RowGate, at_least_one, has_sent, is_one_of, net_of};
 use std::alloc::Global;
@@ -157,7 +157,7 @@ fn run(
         },
     };
     let start = Start { second: 0, base: 1 };
-    let mut left = Left::nothing();
+    let mut left = Left::nothing(Keeper::new(MemClock::new(&[])));
     let ending = answer_or_serve(
         &process,
         start,

@@ -5,13 +5,13 @@ use Rattle.served.specs.Ends.{EndFacts, AreNewEnds, end_facts}
 use Rattle.served.specs.NetRun.{NetFacts, net_facts}
 use Rattle.served.proofs.Whole.{Bound, run_failed, run_left, run_served}
 use Rattle.fronts.specs.declared.totals.ServeFault.TheVariants.{Net}
-use Rattle.locked_server.specs.declared.stop.Stop.TheVariants.{Unbound, Unheard, Unannounced}
+use Rattle.locked_server.specs.declared.stop.Stop.TheVariants.{Unbound, Unheard, Unkept, Unannounced}
 use Rattle.connections.specs.Shares.{ShareFacts}
 use Rattle.locked_server.specs.Streams.{AreUnserved, KeepsListeners, listen_facts, stream_facts}
 use Rattle.locked_server.specs.Causes.{PortFacts, ports_at}
 use Rattle.locked_server.proofs.Bound.{unbound, unserved, came_ok, came_err, silent}
 use Rattle.locked_server.proofs.Heard.{kept_unheard}
-use Rattle.locked_server.proofs.Stopped.{ended_with, fails_to_tell, fault_told}
+use Rattle.locked_server.proofs.Stopped.{ended_with, fails_to_tell, fault_told, unkept_untold, kept_by, kept_at_fault}
 use Rattle.locked_server.proofs.serve.bind_and_serve.Given as given
 use Rattle.locked_server.proofs.serve.bind_and_serve.Goals.{After-bind_all, After-listen_all}
 use Rattle.locked_server.proofs.serve.bind_and_serve.Goals as goal
@@ -103,28 +103,59 @@ returns-in-Err-listen_all-clause-announced g c =
     let failed = c.in-Err-listen_all.ensures in
     ((c.in-Ok.ensures.none_refused, failed.cause, omega (arith, c.listen_all.ensures.kept.given, ap length failed.none, c.listen_all.new.connections.ok)), refl)
 
+-- Who keeps what is left could not begin
+
+pub returns-in_err-begin-clause-served : goal.returns-in_err-begin-clause-served
+returns-in_err-begin-clause-served g c =
+    let at = goal.at.returns-in_err-begin-clause-served g c in
+    unserved (map (of_stream g) c.listen_all.new.connections.items) c.listen_all.ensures.new (heard_few g at.After-listen_all) Unkept (ended_with c.from_residual.result c.from_residual.ensures.1) tt c.requires.uncounted refl refl
+    (run_left (bound g at.After-bind_all) c.requires.filled c.requires.tables (ends_long g at.After-bind_all ∙ c.in-Ok.ensures.all))
+
+pub returns-in_err-begin-clause-announced : goal.returns-in_err-begin-clause-announced
+returns-in_err-begin-clause-announced g c =
+    let service = c.args.shared.now.service in
+    unkept_untold (g.A.Announce.says service.ports service.places) (g.A.Announce.fails service.ports service.places) (ports_of g c.args.net.now c.args.listeners.now)
+    (ports_of g c.bind_all.new.net c.listen_all.new.listeners) c.args.announce.now (ended_with c.from_residual.result c.from_residual.ensures.1)
+    (c.in-Ok.ensures.none_refused, c.in-Ok-listen_all.ensures.steady)
+
+pub returns-in_err-begin-clause-kept : goal.returns-in_err-begin-clause-kept
+returns-in_err-begin-clause-kept g c =
+    kept_by g.V.Keeps.begins g.V.Keeps.fails g.V.Keeps.keeps c.args.left.now.tables c.args.left.now.keeper c.begin.new.self Unkept (ended_with c.from_residual.result c.from_residual.ensures.1)
+    c.in_err-begin.ensures.failed
+
 -- It could not be told
 
 pub returns-in_err-ready-clause-served : goal.returns-in_err-ready-clause-served
 returns-in_err-ready-clause-served g c =
     let at = goal.at.returns-in_err-ready-clause-served g c in
-    unserved (map (of_stream g) c.listen_all.new.connections.items) c.listen_all.ensures.new (heard_few g at.After-listen_all) Unannounced (ended_with c.from_residual.result c.from_residual.ensures.1) tt c.requires.uncounted refl refl
+    unserved (map (of_stream g) c.listen_all.new.connections.items) c.listen_all.ensures.new (heard_few g at.After-listen_all) Unannounced (ended_with c.from_residual-in_err-ready.result c.from_residual-in_err-ready.ensures.1) tt c.requires.uncounted refl refl
     (run_left (bound g at.After-bind_all) c.requires.filled c.requires.tables (ends_long g at.After-bind_all ∙ c.in-Ok.ensures.all))
 
 pub returns-in_err-ready-clause-announced : goal.returns-in_err-ready-clause-announced
 returns-in_err-ready-clause-announced g c =
     let service = c.args.shared.now.service in
     fails_to_tell (g.A.Announce.says service.ports service.places) (g.A.Announce.fails service.ports service.places) (ports_of g c.args.net.now c.args.listeners.now)
-    (ports_of g c.bind_all.new.net c.listen_all.new.listeners) c.args.announce.now c.ready.new.self (ended_with c.from_residual.result c.from_residual.ensures.1) c.in_err-ready.ensures.failed
+    (ports_of g c.bind_all.new.net c.listen_all.new.listeners) c.args.announce.now c.ready.new.self (ended_with c.from_residual-in_err-ready.result c.from_residual-in_err-ready.ensures.1) c.in_err-ready.ensures.failed
+
+pub returns-in_err-ready-clause-kept : goal.returns-in_err-ready-clause-kept
+returns-in_err-ready-clause-kept g c =
+    kept_by g.V.Keeps.begins g.V.Keeps.fails g.V.Keeps.keeps c.args.left.now.tables c.args.left.now.keeper c.begin.new.self Unannounced
+    (ended_with c.from_residual-in_err-ready.result c.from_residual-in_err-ready.ensures.1) c.in_ok-begin.ensures.begun
 
 -- A front failed
+
+pub returns-in_err-totals-clause-kept : goal.returns-in_err-totals-clause-kept
+returns-in_err-totals-clause-kept g c =
+    kept_at_fault g.V.Keeps.begins g.V.Keeps.fails g.V.Keeps.keeps c.serve_all.new.left.tables c.args.left.now.keeper c.serve_all.new.left.keeper c.in_err-totals.field-0.0
+    (ended_with c.from_residual-in_err-totals.result c.from_residual-in_err-totals.ensures.1)
+    (subst (g.V.Keeps.begins c.args.left.now.keeper) (sym c.in_err-totals.ensures.unshown) c.in_ok-begin.ensures.begun)
 
 pub returns-in_err-totals-clause-served : goal.returns-in_err-totals-clause-served
 returns-in_err-totals-clause-served g c =
     let at = goal.at.returns-in_err-totals-clause-served g c in
     let fault = c.in_err-totals.field-0.0 in
-    came_err (map (of_stream g) c.listen_all.new.connections.items) c.listen_all.ensures.new (heard_few g at.After-listen_all) (heard_long g at.After-listen_all ∙ c.in-Ok-listen_all.ensures.all) fault (ended_with c.from_residual-in_err-totals.result c.from_residual-in_err-totals.ensures.1) c.in_err-totals.ensures refl
-    (run_served (bound g at.After-bind_all) c.requires.filled (Err fault) (ends_long g at.After-bind_all ∙ c.in-Ok.ensures.all) c.in-Ok.ensures.steady c.in_err-totals.ensures.fronts)
+    came_err (map (of_stream g) c.listen_all.new.connections.items) c.listen_all.ensures.new (heard_few g at.After-listen_all) (heard_long g at.After-listen_all ∙ c.in-Ok-listen_all.ensures.all) fault (ended_with c.from_residual-in_err-totals.result c.from_residual-in_err-totals.ensures.1) c.in_err-totals.ensures.serves refl
+    (run_served (bound g at.After-bind_all) c.requires.filled (Err fault) (ends_long g at.After-bind_all ∙ c.in-Ok.ensures.all) c.in-Ok.ensures.steady c.in_err-totals.ensures.serves.fronts)
 
 pub returns-in_err-totals-clause-announced : goal.returns-in_err-totals-clause-announced
 returns-in_err-totals-clause-announced g c =
@@ -137,18 +168,21 @@ pub returns-in_err-totals-clause-heard : goal.returns-in_err-totals-clause-heard
 returns-in_err-totals-clause-heard g c =
     let at = goal.at.returns-in_err-totals-clause-heard g c in
     let news = c.serve_all.new.connections in
-    kept_then g at.After-listen_all (vec_len news) (omega (arith, length-map news.items (of_stream g), news.ok, c.in_err-totals.ensures.streams.many))
+    kept_then g at.After-listen_all (vec_len news) (omega (arith, length-map news.items (of_stream g), news.ok, c.in_err-totals.ensures.serves.streams.many))
 
 -- All were served
 
 pub returns-clause-served : goal.returns-clause-served
 returns-clause-served g c =
     let at = goal.at.returns-clause-served g c in
-    came_ok (map (of_stream g) c.listen_all.new.connections.items) c.listen_all.ensures.new (heard_few g at.After-listen_all) (heard_long g at.After-listen_all ∙ c.in-Ok-listen_all.ensures.all) c.in_ok-totals.totals refl c.in_ok-totals.ensures refl
-    (run_served (bound g at.After-bind_all) c.requires.filled (Ok c.in_ok-totals.totals) (ends_long g at.After-bind_all ∙ c.in-Ok.ensures.all) c.in-Ok.ensures.steady c.in_ok-totals.ensures.fronts)
+    came_ok (map (of_stream g) c.listen_all.new.connections.items) c.listen_all.ensures.new (heard_few g at.After-listen_all) (heard_long g at.After-listen_all ∙ c.in-Ok-listen_all.ensures.all) c.in_ok-totals.totals refl c.in_ok-totals.ensures.serves refl
+    (run_served (bound g at.After-bind_all) c.requires.filled (Ok c.in_ok-totals.totals) (ends_long g at.After-bind_all ∙ c.in-Ok.ensures.all) c.in-Ok.ensures.steady c.in_ok-totals.ensures.serves.fronts)
 
 pub returns-clause-heard : goal.returns-clause-heard
 returns-clause-heard g c =
     let at = goal.at.returns-clause-heard g c in
     let news = c.serve_all.new.connections in
-    kept_then g at.After-listen_all (vec_len news) (omega (arith, length-map news.items (of_stream g), news.ok, c.in_ok-totals.ensures.streams.many))
+    kept_then g at.After-listen_all (vec_len news) (omega (arith, length-map news.items (of_stream g), news.ok, c.in_ok-totals.ensures.serves.streams.many))
+
+pub returns-clause-kept : goal.returns-clause-kept
+returns-clause-kept g c = (c.begin.new.self, c.in_ok-begin.ensures.begun, c.in_ok-totals.ensures.shown)

@@ -18,7 +18,7 @@ use Rattle.locked_server.specs.Streams.{ListenFacts, listen_facts, stream_facts,
 use Rattle.locked_server.specs.Causes.{PortFacts, ports_at}
 use Rattle.locked_server.proofs.Released.{kept_released}
 use Rattle.locked_server.proofs.Named.{accepted}
-use Rattle.locked_server.proofs.Stopped.{ended_with, had_ports, says_then, still_told, no_memory, unopened}
+use Rattle.locked_server.proofs.Stopped.{ended_with, had_ports, says_then, still_told, no_memory, unopened, kept_unopened}
 use Rattle.locked_server.proofs.serve.serve_named.Given as given
 use Rattle.locked_server.proofs.serve.serve_named.Goals as goal
 
@@ -111,3 +111,15 @@ returns-in_err-connections-clause-cause g c =
 pub returns-in_err-connections-clause-leaves : goal.returns-in_err-connections-clause-leaves
 returns-in_err-connections-clause-leaves g c =
     unopened open_fault.NoMemory (ended_with c.from_residual-in_err-connections.result c.from_residual-in_err-connections.ensures.1) c.requires.unbound
+
+pub returns-in_err-server-clause-kept : goal.returns-in_err-server-clause-kept
+returns-in_err-server-clause-kept g c =
+    kept_unopened g.V.Keeps.begins g.V.Keeps.fails g.V.Keeps.keeps c.args.left.now.tables c.args.left.now.keeper open_fault.NoMemory (ended_with c.from_residual.result c.from_residual.ensures.1)
+
+pub returns-in_err-ends-clause-kept : goal.returns-in_err-ends-clause-kept
+returns-in_err-ends-clause-kept g c =
+    kept_unopened g.V.Keeps.begins g.V.Keeps.fails g.V.Keeps.keeps c.args.left.now.tables c.args.left.now.keeper open_fault.NoMemory (ended_with c.from_residual-in_err-ends.result c.from_residual-in_err-ends.ensures.1)
+
+pub returns-in_err-connections-clause-kept : goal.returns-in_err-connections-clause-kept
+returns-in_err-connections-clause-kept g c =
+    kept_unopened g.V.Keeps.begins g.V.Keeps.fails g.V.Keeps.keeps c.args.left.now.tables c.args.left.now.keeper open_fault.NoMemory (ended_with c.from_residual-in_err-connections.result c.from_residual-in_err-connections.ensures.1)

@@ -9,7 +9,7 @@ use Rattle.locked_server.specs.Filled.{RefusesFilling}
 use Rattle.locked_server.specs.Causes.{HasCause, ports_at}
 use Rattle.locked_server.specs.Opening.{FilledView, AreFilled, filled_view}
 use Rattle.locked_server.proofs.Named.{of_plan, origin_is}
-use Rattle.locked_server.proofs.Stopped.{ended_with, not_opened, cause_filled, unopened}
+use Rattle.locked_server.proofs.Stopped.{ended_with, not_opened, cause_filled, unopened, kept_unopened}
 use Rattle.locked_server.proofs.serve.serve_on.Given as given
 use Rattle.locked_server.proofs.serve.serve_on.Goals as goal
 
@@ -53,3 +53,11 @@ returns-in_err-rehearse-clause-cause g c =
 pub returns-in_err-rehearse-clause-leaves : goal.returns-in_err-rehearse-clause-leaves
 returns-in_err-rehearse-clause-leaves g c =
     unopened open_fault.NoMemory (ended_with c.from_residual.result c.from_residual.ensures.1) c.requires.unbound
+
+pub returns-in_err-parts-clause-kept : goal.returns-in_err-parts-clause-kept
+returns-in_err-parts-clause-kept g c =
+    kept_unopened g.V.Keeps.begins g.V.Keeps.fails g.V.Keeps.keeps c.args.left.now.tables c.args.left.now.keeper c.in_err-parts.field-0.0 (ended_with c.from_residual-in_err-parts.result c.from_residual-in_err-parts.ensures.1)
+
+pub returns-in_err-rehearse-clause-kept : goal.returns-in_err-rehearse-clause-kept
+returns-in_err-rehearse-clause-kept g c =
+    kept_unopened g.V.Keeps.begins g.V.Keeps.fails g.V.Keeps.keeps c.args.left.now.tables c.args.left.now.keeper open_fault.NoMemory (ended_with c.from_residual.result c.from_residual.ensures.1)

@@ -198,16 +198,16 @@ module _ (g : given.Over) (c : After-take_in_all g) (open_streams : AreNewHands 
       c.run_workers.ensures.streams.0 c.run_workers.ensures.fronts.0
 
   all : HaveRan (plan_of g) (map stream_hand c.pair_streams.new.tasks.items ++ map hand_of c.pair_up.new.tasks.items)
-      (map stream_hand c.run_workers.new.streams.items ++ map hand_of c.run_workers.new.fronts.items) c.take_in_all.ensures.lefts (map (view g) c.take_in_all.new.parts.items)
+      (map stream_hand c.run_workers.new.streams.items ++ map hand_of c.run_workers.new.fronts.items) c.take_in_all.ensures.back.lefts (map (view g) c.take_in_all.new.parts.items)
   all = record {
     some = omega (arith, news_long, opens.many, c.requires.plan.fronts, c.requires.service.some);
     filled = subst (λ (o : Options). (p : ℕ) → p < o.partitions → IsHistory o ((plan_of g).origin p)) c.requires.plan.options c.requires.filled;
     opened = opens;
     same = news_long;
     are = hands_are;
-    many = c.take_in_all.ensures.many;
-    back = c.take_in_all.ensures.back;
-    took = subst (TakesHands c.take_in_all.ensures.lefts (map (view g) c.take_in_all.new.parts.items)) news_are c.take_in_all.ensures.took;
+    many = c.take_in_all.ensures.back.many;
+    back = c.take_in_all.ensures.back.back;
+    took = subst (TakesHands c.take_in_all.ensures.back.lefts (map (view g) c.take_in_all.new.parts.items)) news_are c.take_in_all.ensures.back.took;
   }
 
 pub returns-clause-ran : goal.returns-clause-ran

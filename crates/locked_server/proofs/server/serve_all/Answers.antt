@@ -9,6 +9,7 @@ use Rattle.fronts.specs.declared.totals.ServeFault.{ServeFault}
 use Rattle.fronts.specs.Totals.{IsUpTo}
 use Rattle.locked_front.specs.declared.returned.Returned.{Returned}
 use Rattle.locked_front.specs.Owned.{Owned}
+use Rattle.locked_server.specs.Causes.{ShownAll}
 use Rattle.locked_server.specs.Taking.{left_view}
 use Rattle.connections.specs.Shares.{ShareFacts}
 use Rattle.locked_server.specs.Streams.{ServesBeside, stream_facts}
@@ -61,17 +62,24 @@ keep_all-requires-clause-room g c =
       c.requires.service.options.partitions.1,
     )
 
-pub returns-in_err-totals : goal.returns-in_err-totals
-returns-in_err-totals g c =
+pub returns-in_err-totals-clause-serves : goal.returns-in_err-totals-clause-serves
+returns-in_err-totals-clause-serves g c =
     subst (λ (r : Result Totals ServeFault). ServesBeside c.args.shared.now.service.options g.J.ServerPlan.plan.origin c.args.shared.now.service.ports.batches c.args.shared.now.service.base c.args.shared.now.service.buffers r c.args.left.now.tables c.run_all-parts.result.lacked
     (map (facts g) c.args.ends.now.items) (map (facts g) c.run_all-parts.new.ends.items) (map (of_stream g) c.args.connections.now.items) (map (of_stream g) c.run_all-parts.new.connections.items)) (sym (ended_with c.from_residual.result c.from_residual.ensures.1))
     (serves_beside _ c.requires.service.options.partitions.0 _ _ _ _ _ _ _ _ _ _ _ _ c.run_all-parts.ensures.ran c.args.left.now.tables (Err c.in_err-totals.field-0.0)
     (subst (λ (y : List (Result ⊤ ServeFault) × List (Result Totals ServeFault)). SumsUpBeside y.0 y.1 (Err c.in_err-totals.field-0.0))
     (λ i. (c.as_slice.ensures.value i, c.as_slice-2.ensures.value i)) c.in_err-totals.ensures) c.requires.tables)
 
-pub returns : goal.returns
-returns g c =
-    serves_beside _ c.requires.service.options.partitions.0 _ _ _ _ _ _ _ _ _ _ _ _ c.run_all-parts.ensures.ran c.keep_all.new.tables (Ok c.in_ok-totals.totals)
+pub returns-clause-serves : goal.returns-clause-serves
+returns-clause-serves g c =
+    subst (λ (n : ℕ). ServesBeside c.args.shared.now.service.options g.J.ServerPlan.plan.origin c.args.shared.now.service.ports.batches c.args.shared.now.service.base c.args.shared.now.service.buffers (Ok c.in_ok-totals.totals) c.keep_all.new.left.tables n
+    (map (facts g) c.args.ends.now.items) (map (facts g) c.run_all-parts.new.ends.items) (map (of_stream g) c.args.connections.now.items) (map (of_stream g) c.run_all-parts.new.connections.items)) (sym c.keep_all.ensures.lacked)
+    (serves_beside _ c.requires.service.options.partitions.0 _ _ _ _ _ _ _ _ _ _ _ _ c.run_all-parts.ensures.ran c.keep_all.new.left.tables (Ok c.in_ok-totals.totals)
     (subst (λ (y : List (Result ⊤ ServeFault) × List (Result Totals ServeFault)). SumsUpBeside y.0 y.1 (Ok c.in_ok-totals.totals))
     (λ i. (c.as_slice.ensures.value i, c.as_slice-2.ensures.value i)) c.in_ok-totals.ensures)
-    (c.keep_all.ensures ∙ ap (λ (l : List KeptSeat). l ++ map entry (map (view g) c.run_all-parts.result.parts.items)) c.requires.tables)
+    (c.keep_all.ensures.tables ∙ ap (λ (l : List KeptSeat). l ++ map entry (map (view g) c.run_all-parts.result.parts.items)) c.requires.tables))
+
+pub returns-clause-shown : goal.returns-clause-shown
+returns-clause-shown g c =
+    subst (λ (l : List KeptSeat). ShownAll g.V.Keeps.keeps c.args.left.now.keeper l c.keep_all.new.left.keeper)
+    (sym (c.keep_all.ensures.tables ∙ ap (λ (l : List KeptSeat). l ++ map entry (map (view g) c.run_all-parts.result.parts.items)) c.requires.tables)) c.keep_all.ensures.shown

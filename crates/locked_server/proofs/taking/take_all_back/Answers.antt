@@ -1,9 +1,10 @@
 use Rattle.std.proofs.Common.{rules, ◌≡◌, ℕ, suc, length, map, slice_get, refl, sym, ap, ◌∙◌, subst, arith}
 use Rattle.std.proofs.lemmas.List.{length_push}
+use Rattle.std.proofs.lemmas.List.Elements.{All-nil, All-push}
 use Rattle.std.proofs.lemmas.Option.{slice_get_within}
 use Rattle.locked_front.specs.declared.returned.Returned.{Returned}
 use Rattle.locked_front.specs.Owned.{Owned, IsOwned}
-use Rattle.locked_server.specs.Taking.{left_view}
+use Rattle.locked_server.specs.Taking.{IsCounted, AreCounted, left_view}
 use Rattle.locked_server.proofs.Joined.{each_pushed}
 use Rattle.locked_server.proofs.taking.take_all_back.Given as given
 use Rattle.locked_server.proofs.taking.take_all_back.Goals as goal
@@ -18,6 +19,7 @@ loop-lock-init g c =
       each = record { each = λ p left at. absurd (let low = slice_get_within (map (view g) c.args.parts.now.items) p left at in omega (arith, ap length (ap (map (view g)) c.requires.none))) };
       many = omega (arith, ap length c.requires.none, ap length all, c.into_locks-lock-items.ensures.many);
       order = λ k lock at. omega (arith, ap length c.requires.none, c.into_locks-lock-items.ensures.order k lock (ap (λ l. slice_get l k) (sym all) ∙ at));
+      counted = subst (AreCounted g.P.Partition.owner) (sym c.requires.none) (All-nil (IsCounted g.P.Partition.owner));
       room = c.requires.room;
     }
 
@@ -45,5 +47,6 @@ loop-lock-preserved g c =
       };
       many = omega (arith, ap length pushed, length_push c.loop-lock.parts.items part, i.many, ap length head);
       order = λ k lock at. omega (arith, ap length pushed, length_push c.loop-lock.parts.items part, i.order (suc k) lock (ap (λ l. slice_get l (suc k)) head ∙ at));
+      counted = subst (AreCounted g.P.Partition.owner) (sym pushed) (All-push (IsCounted g.P.Partition.owner) c.loop-lock.parts.items part i.counted c.give_back.ensures.counted);
       room = search rules;
     }

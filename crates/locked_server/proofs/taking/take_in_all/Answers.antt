@@ -19,16 +19,16 @@ module _ (g : given.Over) (c : After-take_all_back g) where
   may : MayTakeHands (map (view g) c.take_all_back.new.parts.items) (map (λ hand. hand.items) c.args.stream_hands.items ++ map (λ hand. hand.items) c.args.hands.items)
   may = may_take g.J.ServerPlan.plan _ _ c.requires.hands lefts_many c.take_all_back.ensures.each
 
-pub take_hands-requires : goal.take_hands-requires
-take_hands-requires g c = may_left _ _ _ (may g (goal.at.take_hands-requires g c).After-take_all_back)
+pub take_hands-requires-clause-may : goal.take_hands-requires-clause-may
+take_hands-requires-clause-may g c = may_left _ _ _ (may g (goal.at.take_hands-requires-clause-may g c).After-take_all_back)
 
-pub take_hands-requires-2 : goal.take_hands-requires-2
-take_hands-requires-2 g c = may_behind _ _ _ _ c.take_hands.ensures (may_right _ (map (λ hand. hand.items) c.args.stream_hands.items) _ (may g (goal.at.take_hands-requires-2 g c).After-take_all_back))
+pub take_hands-requires-2-clause-may : goal.take_hands-requires-2-clause-may
+take_hands-requires-2-clause-may g c = may_behind _ _ _ _ c.take_hands.ensures.took (may_right _ (map (λ hand. hand.items) c.args.stream_hands.items) _ (may g (goal.at.take_hands-requires-2-clause-may g c).After-take_all_back))
 
-pub returns : goal.returns
-returns g c = record {
+pub returns-clause-back : goal.returns-clause-back
+returns-clause-back g c = record {
   lefts = map (view g) c.take_all_back.new.parts.items;
-  many = lefts_many g (goal.at.returns g c).After-take_all_back;
+  many = lefts_many g (goal.at.returns-clause-back g c).After-take_all_back;
   back = c.take_all_back.ensures.each;
-  took = took_both _ _ _ _ _ c.take_hands.ensures c.take_hands-2.ensures;
+  took = took_both _ _ _ _ _ c.take_hands.ensures.took c.take_hands-2.ensures.took;
 }
