@@ -1,7 +1,10 @@
 -- What fills the partitions of a server with a file of saved items, and what is written where it can't be had.
 use Rattle.std.specs.Prelude.{◌≡◌, ◌≢◌, ◌<◌, ◌⊎◌, ◌==◌, ℕ, List, [], ◌∷◌, ◌++◌, length, filter, max, codes, Option, Some, None, if◌then◌else◌, slice_get, false, true, ⊤, Ok, Err}
 use Rattle.outside.specs.Faults.{Rose}
+use Rattle.mica_words.specs.declared.hashing.Hashing.{Hashing as KeyHashing}
+use Rattle.mica_words.specs.declared.hashing.Hashing.TheVariants.{Fnv1a, SipHash}
 use Rattle.mica_words.specs.Hash.{partition_of}
+use Rattle.mica_words.specs.Mark.{has_marks}
 use Rattle.partition_model.specs.declared.options.Options.{Options}
 use Rattle.partition_model.specs.declared.write.Write.{Write}
 use Rattle.partition_model.specs.Write.{IsWrite}
@@ -9,6 +12,7 @@ use Rattle.saved_items.specs.declared.fault.SavedFault.{SavedFault}
 use Rattle.saved_items.specs.declared.fault.SavedFault.TheVariants as faults
 use Rattle.saved_items.specs.declared.blocks.TheConstants.{FIRST_SUM}
 use Rattle.saved_items.specs.declared.items.Head.{Head}
+use Rattle.saved_items.specs.declared.items.Hashing.{Hashing}
 use Rattle.saved_items.specs.declared.items.Hashing.TheVariants.{Papers, Secret}
 use Rattle.saved_items.specs.Items.{Pair, Entry, Keeps, Closes}
 use Rattle.saved_items.specs.Reading.{Stream, ReadsAs, head_at, stream_at}
@@ -54,31 +58,42 @@ or_none (Some second) = second
 abbrev pub due_in : List ℕ → ℕ → ℕ → ℕ
 due_in untils partitions number = if length untils == partitions then or_none (slice_get untils number) else last_of untils
 
--- What a partition of so many takes of a file: the pairs of its keys, in their order, and the flush that waits.
-abbrev pub part_for : ℕ → List Entry → ℕ → Part
-part_for partitions entries number = record {
-  pairs = filter (λ pair. partition_of pair.key partitions == number) (pairs_of entries);
-  closing = record { written = 0; next = 1; until = due_in (untils_of entries) partitions number };
+-- how a file says how keys are hashed
+abbrev pub saved_hashing : KeyHashing → Hashing
+saved_hashing Fnv1a = Papers
+saved_hashing (SipHash k0 k1) = Secret k0 k1
+
+-- the options with another hashing
+abbrev pub hashed_by : KeyHashing → Options → Options
+hashed_by hashing options = record options { hashing = hashing }
+
+-- What a partition takes of a file: the pairs of its keys, in their order, and the flush that waits.
+abbrev pub part_for : Options → List Entry → ℕ → Part
+part_for options entries number = record {
+  pairs = filter (λ pair. partition_of options.hashing pair.key options.partitions == number) (pairs_of entries);
+  closing = record { written = 0; next = 1; until = due_in (untils_of entries) options.partitions number };
 }
 
--- A file that is read to its end without a fault fills each partition with what it takes of it, at a second that is not before the file's; numbers begin above all that
--- it gave. Where there is no file, nothing fills them.
-abbrev pub FillsSaved : Options → ℕ → ℕ → Option (List ℕ) → List Write → ℕ → Type 0
-FillsSaved options first second None writes base = (writes ≡ []) × (base ≡ first)
-FillsSaved options first second (Some text) writes base =
-    (head : Head) × (entries : List Entry) × ReadsAs text head entries None × (head.hashing ≡ Papers) × (base ≡ max first (next_behind 0 entries))
-    × ((number : ℕ) → number < options.partitions → IsFilling options (max second head.second) (part_for options.partitions entries number) (origin_of options writes number))
+-- A file that is read to its end without a fault fills each partition with what it takes of it, at a second that is not before the file's. Keys are hashed as in the
+-- file, under its secret; numbers begin above all that it gave. Where there is no file, nothing fills them.
+abbrev pub FillsSaved : Options → ℕ → ℕ → Option (List ℕ) → KeyHashing → List Write → ℕ → Type 0
+FillsSaved options first second None hashing writes base = (hashing ≡ options.hashing) × (writes ≡ []) × (base ≡ first)
+FillsSaved options first second (Some text) hashing writes base =
+    (head : Head) × (entries : List Entry) × ReadsAs text head entries None × (head.hashing ≡ saved_hashing hashing) × (has_marks hashing ≡ true)
+    × (base ≡ max first (next_behind 0 entries))
+    × ((number : ℕ) → number < options.partitions
+        → IsFilling (hashed_by hashing options) (max second head.second) (part_for (hashed_by hashing options) entries number) (origin_of (hashed_by hashing options) writes number))
 
 -- the same where the file tells what it has
-abbrev pub FillsKnown : Options → ℕ → ℕ → Option (List ℕ) → List Write → ℕ → Type 0
-FillsKnown options first second None writes base = ⊤
-FillsKnown options first second (Some text) writes base = FillsSaved options first second (Some text) writes base
+abbrev pub FillsKnown : Options → ℕ → ℕ → Option (List ℕ) → KeyHashing → List Write → ℕ → Type 0
+FillsKnown options first second None hashing writes base = ⊤
+FillsKnown options first second (Some text) hashing writes base = FillsSaved options first second (Some text) hashing writes base
 
 -- a write that asks for a flush of a partition at this second; no client's key is as long
 pub record IsFlushOf (options : Options) (partition due : ℕ) (write : Write) : Type 0 where
-  pub is : is_flush options.buckets write ≡ true
+  pub is : is_flush options.hashing options.buckets write ≡ true
   pub due_is : (flush_in write.key).due ≡ due
-  pub there : partition_of write.key options.partitions ≡ partition
+  pub there : partition_of options.hashing write.key options.partitions ≡ partition
   pub long : MAX_SAVED_KEY_LEN < length write.key
   pub fits : IsWrite write
 
@@ -105,9 +120,9 @@ HasFault text fault =
     (is_of_outside fault ≡ false)
     × ((head_at (stream_at FIRST_SUM text) ≡ Err fault) ⊎ ((head : Head) × (entries : List Entry) × ReadsAs text head entries (Some fault)))
 
--- its partitions chose the places of keys by a secret
-abbrev pub HasSecret : List ℕ → Type 0
-HasSecret text = (head : Head) × (k0 : ℕ) × (k1 : ℕ) × (rest : Stream) × (head.hashing ≡ Secret k0 k1) × (head_at (stream_at FIRST_SUM text) ≡ Ok (head, rest))
+-- its partitions chose the places of keys by no secret
+abbrev pub HasNoSecret : List ℕ → Type 0
+HasNoSecret text = (head : Head) × (rest : Stream) × (head.hashing ≡ Papers) × (head_at (stream_at FIRST_SUM text) ≡ Ok (head, rest))
 
 -- The line that is due where the file of saved items gives nothing that fills the partitions: a fault of the file, or a call that failed; or another server has its lock.
 abbrev pub IsDueOfSaved : Option (List ℕ) → ℕ → ℕ → Type 0 → DaemonStatus → List ℕ → Type 0
@@ -117,7 +132,7 @@ IsDueOfSaved None before after taken status line = ⊥
 IsDueOfSaved (Some text) before after taken ReadFault line = Rose before after × (line ≡ with_line_feed (codes "read fault"))
 IsDueOfSaved (Some text) before after taken SaveFault line = (Rose before after ⊎ taken) × (line ≡ with_line_feed (codes "save fault"))
 IsDueOfSaved (Some text) before after taken ImageRefused line =
-    ((fault : SavedFault) × HasFault text fault × (line ≡ saved_line (fault_word fault))) ⊎ (HasSecret text × (line ≡ saved_line (codes "hashing")))
+    ((fault : SavedFault) × HasFault text fault × (line ≡ saved_line (fault_word fault))) ⊎ (HasNoSecret text × (line ≡ saved_line (codes "hashing")))
 IsDueOfSaved (Some text) before after taken status line = ⊥
 
 -- Why a file was not loaded.
@@ -127,4 +142,4 @@ FailsToLoad (Saved faults.Failed) text before after = Rose before after
 FailsToLoad (Saved fault) None before after = ⊤
 FailsToLoad (Saved fault) (Some text) before after = HasFault text fault
 FailsToLoad Hashing None before after = ⊤
-FailsToLoad Hashing (Some text) before after = HasSecret text
+FailsToLoad Hashing (Some text) before after = HasNoSecret text

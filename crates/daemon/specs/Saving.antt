@@ -9,7 +9,6 @@ use Rattle.named_files.specs.Files.{FileState, Told, IsSettled, LeavesEither, Ke
 use Rattle.saved_items.specs.declared.fault.SpillFault.{SpillFault}
 use Rattle.saved_items.specs.declared.fault.SpillFault.TheVariants as spill
 use Rattle.saved_items.specs.declared.items.Head.{Head}
-use Rattle.saved_items.specs.declared.items.Hashing.TheVariants.{Papers}
 use Rattle.saved_items.specs.declared.spiller.Spiller.{Spiller}
 use Rattle.saved_items.specs.Items.{SavedItems}
 use Rattle.saved_items.specs.Spelling.{SpellsSaved}
@@ -17,6 +16,7 @@ use Rattle.saved_items.specs.Spiller.{IsFresh, HasSaved}
 use Rattle.kept_items.specs.Parts.{Part, entries_of, entries_in, parts_of}
 use Rattle.kept_items.specs.Walk.{SavesAll}
 use Rattle.kept_items.specs.Left.{IsLeft, saved_mode}
+use Rattle.daemon.specs.Saved.{saved_hashing}
 use Rattle.daemon.specs.declared.saving.Progress.{Progress}
 use Rattle.daemon.specs.declared.saving.Saving.{Saving}
 
@@ -111,7 +111,7 @@ pub record IsNewSaving (options : Options) (base : ℕ) (is_loaded : Bool) (stat
   pub loaded : saving.is_loaded ≡ is_loaded
   pub base_is : saving.base ≡ base
   pub mode : saving.head.mode ≡ saved_mode options.mode
-  pub hashing : saving.head.hashing ≡ Papers
+  pub hashing : saving.head.hashing ≡ saved_hashing options.hashing
   pub partitions : saving.head.partitions ≡ options.partitions
   pub comes : HasCome saving []
 
@@ -119,10 +119,13 @@ pub record IsNewSaving (options : Options) (base : ℕ) (is_loaded : Bool) (stat
 pub record HasAll (head : Head) (tables : List KeptSeat) : Type 0 where
   pub many : length tables ≡ head.partitions
   pub each : All (λ (seat : KeptSeat). saved_mode (options_of seat.shape).mode ≡ head.mode) tables
+  pub hashed : All (λ (seat : KeptSeat). saved_hashing (options_of seat.shape).hashing ≡ head.hashing) tables
 
 -- A file has of each partition what is there of it behind its history, at one second.
 pub record SavesTables (base second : ℕ) (tables : List KeptSeat) (saved : SavedItems) : Type 0 where
   pub second_is : saved.head.second ≡ second
+  pub modes : All (λ (seat : KeptSeat). saved_mode (options_of seat.shape).mode ≡ saved.head.mode) tables
+  pub hashed : All (λ (seat : KeptSeat). saved_hashing (options_of seat.shape).hashing ≡ saved.head.hashing) tables
   pub parts : AllZip (λ (seat : KeptSeat) part. IsLeft (options_of seat.shape) base second seat.history part) tables (parts_of saved.entries)
 
 -- The file has, of each partition, what the server left there at one second, and a crash leaves that; at any moment before it left that or what was there.

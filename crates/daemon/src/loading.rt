@@ -3,7 +3,7 @@ ghost use Rattle.std.specs.Prelude.{◌≡◌, ◌<◌, ◌≤◌, ◌⊎◌, �
 ghost use Rattle.outside.specs.Faults.{Rose};
 ghost use Rattle.partition_model.specs.Options.{IsPossible};
 ghost use Rattle.partition_model.specs.Write.{IsWrite};
-ghost use Rattle.mica_words.specs.Hash.{partition_of};
+ghost use Rattle.mica_words.specs.Mark.{has_marks};
 ghost use Rattle.saved_items.specs.Items.{pair_of, PairFits};
 ghost use Rattle.kept_items.specs.Loaded.{put_of};
 ghost use Rattle.daemon.specs.Saved.{due_in, IsFlushOf, FillsKnown, FailsToLoad};
@@ -118,6 +118,8 @@ fn add_flush(
     writes: &mut Vec<Write>,
 ) -> Result<(), NoMemory>
     requires options { IsPossible options.now }
+    requires marks { has_marks options.now.hashing ≡ true }
+    requires partition { partition < options.now.partitions }
     ensures { OnOk result ((write : _) × (writes.new.items ≡ writes.old.items ++ write ∷ []) × IsFlushOf options.now partition due write) }
 {
     let mut key = ItemBuf::new(alloc)?;
@@ -149,7 +151,8 @@ pub(crate) fn load<S: Source>(
 ) -> Result<Loaded, LoadFault>
     requires options { IsPossible options.now }
     requires open { S.has_ended source.old ≡ false }
-    ensures fills { IfOk result (λ loaded. (first : ℕ) → FillsKnown options.now first second (S.left source.old) loaded.writes.items (max first loaded.next)) }
+    ensures fills { IfOk result (λ loaded. (first : ℕ) → FillsKnown options.now first second (S.left source.old) loaded.hashing loaded.writes.items (max first loaded.next)) }
+    ensures marks { IfOk result (λ loaded. has_marks loaded.hashing ≡ true) }
     ensures are_writes { IfOk result (λ loaded. All IsWrite loaded.writes.items) }
     ensures there { IfOk result (λ loaded. loaded.is_there ≡ true) }
     ensures cause { IfErr result (λ fault. FailsToLoad fault (S.left source.old) (S.faults source.old) (S.faults source.new)) }
@@ -161,6 +164,11 @@ pub(crate) fn load<S: Source>(
     let head = read_head(alloc, source, &mut reader)?;
     let Hashing::Secret(k0, k1) = head.hashing else {
         return Err(LoadFault::Hashing);
+    };
+    let hashing = KeyHashing::SipHash(k0, k1);
+    let options = Options {
+        hashing,
+        ..*options
     };
     // by the server's clock no second passed twice, whatever the machine's says
     let second = second.max(head.second);
@@ -198,13 +206,13 @@ pub(crate) fn load<S: Source>(
     read?;
     for partition in 0..options.partitions {
         let due = due_in(untils.as_slice(), options.partitions, partition);
-        if due > 0 && add_flush(alloc, options, partition, due, &mut writes).is_err() {
+        if due > 0 && add_flush(alloc, &options, partition, due, &mut writes).is_err() {
             return Err(LoadFault::Saved(SavedFault::NoMemory));
         }
     }
     Ok(Loaded {
         writes,
-        hashing: KeyHashing::SipHash(k0, k1),
+        hashing,
         next,
         is_there: true,
     })

@@ -12,7 +12,8 @@ ghost use Rattle.named_files.specs.Files.{Told, IsSettled, KeepsFile, beside_of}
 ghost use Rattle.saved_items.specs.Spiller.{IsFresh, HasSaved, Finishes};
 ghost use Rattle.partition_walk.specs.Listed.{AreListed};
 ghost use Rattle.kept_items.specs.Left.{saved_mode};
-ghost use Rattle.daemon.specs.Saving.{saved_hashing, saving_facts, UsesUp, FailsToUseUp, Shows, HasCome, SavesAtEnd, SavesNot, IsNewSaving, HasAll, IsAsBefore, IsSoFar, SavesSeat, blank_of, progress_facts};
+ghost use Rattle.daemon.specs.Saved.{saved_hashing};
+ghost use Rattle.daemon.specs.Saving.{saving_facts, UsesUp, FailsToUseUp, Shows, HasCome, SavesAtEnd, SavesNot, IsNewSaving, HasAll, IsAsBefore, IsSoFar, SavesSeat, blank_of, progress_facts};
 
 use kept_items::save_part;
 use locked_front::HistoryCounts;
