@@ -1,0 +1,5 @@
+pub mod Loads
+pub mod Short
+pub mod Asked
+pub mod Filled
+pub mod Saved
