@@ -4,7 +4,6 @@ ghost use Rattle.partition_model.specs.Options.{IsPossible};
 ghost use Rattle.mica_words.specs.Mark.{has_marks};
 ghost use Rattle.saved_partitions.specs.Filling.{due_in, last_of, IsFlushOf};
 
-use fronts::Flush;
 use locked_front::make_mark;
 use outside::{Bytes, NoMemory};
 use partition_model::{ItemBuf, Op, Options, Write};
@@ -47,7 +46,7 @@ pub(crate) fn flush_of(
     ensures { IfOk result (IsFlushOf options.now partition due) }
 {
     let mut key = ItemBuf::new(alloc)?;
-    make_mark(partition, Flush { due, asked: 0 }, &mut key);
+    make_mark(partition, due, 0, &mut key);
     Ok(Write {
         op: Op::Del,
         key: Bytes::copy(alloc, key.value())?,
