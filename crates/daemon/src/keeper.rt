@@ -40,13 +40,13 @@ impl<P: Place + Drop, C: Clock + Drop> Keeper<P, C> {
 }
 
 impl<P: Place + Drop, T: Clock + Drop> Keeps for Keeper<P, T> {
-    ghost use Rattle.daemon.specs.Keeping.{keeping_facts, Begins, FailsToBegin, Keeps};
+    ghost use Rattle.daemon.specs.Keeping.{keeping_facts, Begins, FailsToBegin, KeepsSeat};
 
     ghost begins = { λ a b. Begins (keeping_facts P.state P.faults a) (keeping_facts P.state P.faults b) };
 
     ghost fails = { λ a b. FailsToBegin (keeping_facts P.state P.faults a) (keeping_facts P.state P.faults b) };
 
-    ghost keeps = { λ a seat b. Keeps (keeping_facts P.state P.faults a) seat (keeping_facts P.state P.faults b) };
+    ghost keeps = { λ a seat b. KeepsSeat (keeping_facts P.state P.faults a) seat (keeping_facts P.state P.faults b) };
 
     // A file that was loaded is used once.
     fn begin(&mut self) -> Result<(), Unkept> {
