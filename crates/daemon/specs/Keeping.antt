@@ -1,19 +1,17 @@
 -- Who keeps what a server leaves, and what becomes of the file of saved items.
-use Rattle.std.specs.Prelude.{◌≡◌, ◌≢◌, ◌<◌, ◌⊎◌, ◌++◌, ⊤, ℕ, Bool, true, false, List, codes, max, Option, Some, None, option_map, Result, Ok, Err}
-use Rattle.std.specs.Bool.{MatchBool}
+use Rattle.std.specs.Prelude.{◌≡◌, ◌≢◌, ◌<◌, ◌⊎◌, ◌++◌, ⊤, ℕ, Bool, true, false, List, codes, max, Option, Some, None, is_some, option_map, Result, Ok, Err}
 use Rattle.mica_words.specs.declared.hashing.Hashing.{Hashing}
 use Rattle.mica_words.specs.Mark.{has_marks}
 use Rattle.partition_model.specs.declared.options.Options.{Options}
 use Rattle.partition_model.specs.declared.write.Write.{Write}
 use Rattle.partition_table.specs.declared.tables.KeptSeat.{KeptSeat}
-use Rattle.named_files.specs.Files.{FileState, Told, LeavesEither, KeepsFile, seen}
+use Rattle.named_files.specs.Files.{FileState, Told, seen}
 use Rattle.saved_items.specs.declared.fault.SavedFault.{SavedFault}
 use Rattle.saved_items.specs.declared.fault.SavedFault.TheVariants as faults
 use Rattle.saved_items.specs.declared.fault.SpillFault.{SpillFault}
 use Rattle.saved_items.specs.declared.fault.SpillFault.TheVariants as spill
 use Rattle.saved_partitions.specs.Filling.{FillsPartitions, HasFault, HasNoSecret}
-use Rattle.saved_partitions.specs.Saving.{SavingFacts, PlaceFacts, saving_facts, place_facts, Shows, UsesUp, FailsToUseUp, HasCome, HasAll, SavesAtEnd, SavesNot}
-use Rattle.locked_server.specs.Causes.{ShownAll}
+use Rattle.saved_partitions.specs.Saving.{SavingFacts, PlaceFacts, IsNewSaving, saving_facts, place_facts, Shows, UsesUp, FailsToUseUp, HasCome, HasAll, SavesAtEnd, SavesNot}
 use Rattle.server_words.specs.Output.{SinkFacts, with_line_feed}
 use Rattle.daemon.specs.declared.status.DaemonStatus.{DaemonStatus}
 use Rattle.daemon.specs.declared.status.DaemonStatus.TheVariants.{NoMemory, ReadFault, ImageRefused, SaveFault, Stopped, UsedUp}
@@ -93,11 +91,6 @@ FillsByFile (Some (Some text)) options first second hashing writes base =
 
 -- ---- at the end
 
--- What became of it where the server came to totals: a file that was loaded was used up before anything was received, and all partitions were shown; else they were not.
-abbrev pub IsShown : Bool → List KeptSeat → KeepingFacts → KeepingFacts → Type 0
-IsShown true tables old new = (mid : KeepingFacts) × Begins old mid × ShownAll KeepsSeat mid tables new
-IsShown false tables old new = (new ≡ old) ⊎ Begins old new ⊎ FailsToBegin old new
-
 -- it was saved, or could not be
 abbrev pub ComesToEnd : Result ⊤ SpillFault → SavingFacts → PlaceFacts → List KeptSeat → Type 0
 ComesToEnd (Ok none) saving after tables = SavesAtEnd saving.base tables saving.place.state after.state
@@ -120,3 +113,28 @@ abbrev pub TellsBehind : Result ⊤ SpillFault → DaemonStatus → SinkFacts �
 TellsBehind came Stopped old new result = TellsEnd came Stopped old new result
 TellsBehind came UsedUp old new result = TellsEnd came UsedUp old new result
 TellsBehind came status old new result = (result ≡ status) × (new ≡ old)
+
+-- where it did not come to totals, or nothing is saved, nothing more is done
+abbrev pub EndsSaving : Option SavingFacts → KeepingFacts → KeepingFacts → DaemonStatus → SinkFacts → SinkFacts → DaemonStatus → Type 0
+EndsSaving None old new came before after status = (new ≡ old) × (after ≡ before) × (status ≡ came)
+EndsSaving (Some saving) old new came before after status =
+    (end : Result ⊤ SpillFault) × EndsOnPlace end (Some saving) new.place × (new.saving ≡ None) × TellsBehind end came before after status
+
+abbrev pub EndsKept : Bool → KeepingFacts → KeepingFacts → DaemonStatus → SinkFacts → SinkFacts → DaemonStatus → Type 0
+EndsKept false old new came before after status = (new ≡ old) × (after ≡ before) × (status ≡ came)
+EndsKept true old new came before after status = EndsSaving old.saving old new came before after status
+
+-- nothing was saved yet, of partitions of these options, by a place of this state; a file that is there was loaded
+pub record IsAtHand (options : Options) (base : ℕ) (state : Option FileState) (kept : KeepingFacts) : Type 0 where
+  pub saving : SavingFacts
+  pub is : kept.saving ≡ Some saving
+  pub loaded : Told state (λ told. saving.is_loaded ≡ is_some (seen told))
+  pub new : IsNewSaving options base saving.is_loaded state saving.place.faults saving
+
+abbrev pub place_faults : Option PlaceFacts → ℕ
+place_faults None = 0
+place_faults (Some place) = place.faults
+
+-- how many calls of the place failed, where it is given back
+abbrev pub faults_of : KeepingFacts → ℕ
+faults_of kept = place_faults kept.place

@@ -1,5 +1,6 @@
 //! Who keeps what a server leaves, where a file of saved items is named; else nobody does.
-ghost use Rattle.std.specs.Prelude.{◌≡◌, None};
+ghost use Rattle.std.specs.Prelude.{◌≡◌, None, IfNone, IfSome};
+ghost use Rattle.daemon.specs.Keeping.{keeping_facts, EndsOnPlace};
 
 use locked_front::HistoryCounts;
 use locked_server::{Keeps, Unkept};
@@ -31,7 +32,11 @@ impl<P: Place + Drop, C: Clock + Drop> Keeper<P, C> {
     }
 
     /// What is to be kept is whole: a file of saved items gets its name. Nothing, where nothing is to be kept.
-    pub(crate) fn end(&mut self) -> Option<Result<(), SpillFault>> {
+    pub(crate) fn end(&mut self) -> Option<Result<(), SpillFault>>
+        ensures none { IfNone result ((self.old.saving ≡ None) × (keeping_facts P.state P.faults self.new ≡ keeping_facts P.state P.faults self.old)) }
+        ensures some { IfSome result (λ came. EndsOnPlace came (keeping_facts P.state P.faults self.old).saving (keeping_facts P.state P.faults self.new).place
+            × ((keeping_facts P.state P.faults self.new).saving ≡ None)) }
+    {
         let saving = self.saving.take()?;
         let (place, came) = saving.end();
         self.place = Some(place);

@@ -11,7 +11,8 @@ ghost use Rattle.server_words.specs.Output.{sink_facts};
 ghost use Rattle.daemon.specs.declared.status.DaemonStatus.TheVariants.{NetFault, Stopped, UsedUp};
 ghost use Rattle.daemon.specs.Written.{IsTold};
 ghost use Rattle.daemon.specs.Files.{files_facts};
-ghost use Rattle.daemon.specs.Daemon.{HasMemory, WritesLast, ServesAloud, ServesOrNot, KeepsUp, daemon_outside, ready_text, unbound_text};
+ghost use Rattle.daemon.specs.Keeping.{keeping_facts, TellsBehind, EndsKept};
+ghost use Rattle.daemon.specs.Daemon.{HasMemory, WritesLast, ServesAloud, ServesOrNot, LoadsAndSaves, LoadsNothing, KeepsUp, daemon_outside, ready_text, unbound_text};
 
 use crate::board::board_of;
 use crate::filling::filling_of;
@@ -95,7 +96,9 @@ fn tell_kept<K: Sink>(
     status: DaemonStatus,
     came: Result<(), SpillFault>,
     sink: &mut K,
-) -> DaemonStatus {
+) -> DaemonStatus
+    ensures { TellsBehind came status (sink_facts K.Sink sink.old) (sink_facts K.Sink sink.new) result }
+{
     match status {
         DaemonStatus::Stopped | DaemonStatus::UsedUp => {}
         _ => return status,
@@ -112,7 +115,10 @@ fn end_kept<P: Place + Drop, C: Clock + Drop, K: Sink>(
     ended: Ended,
     keeper: &mut Keeper<P, C>,
     sink: &mut K,
-) -> DaemonStatus {
+) -> DaemonStatus
+    ensures { EndsKept ended.is_whole (keeping_facts P.state P.faults keeper.old) (keeping_facts P.state P.faults keeper.new) ended.status
+        (sink_facts K.Sink sink.old) (sink_facts K.Sink sink.new) result }
+{
     if !ended.is_whole {
         return ended.status;
     }
@@ -187,8 +193,8 @@ fn serve_aloud<
     requires tables { left.old.tables ≡ [] }
     requires uncounted { left.old.lacked ≡ 0 }
     ensures { ServesAloud shared.now.service streams.now.ports filling.items
-        (daemon_outside (sink_facts K.Sink speaker.old.sink) (ports_at N.Net L.Listeners net.old listeners.old) left.old.tables left.old.lacked)
-        (daemon_outside (sink_facts K.Sink speaker.new.sink) (ports_at N.Net L.Listeners net.new listeners.new) left.new.tables left.new.lacked) result.status }
+        (daemon_outside (sink_facts K.Sink speaker.old.sink) (ports_at N.Net L.Listeners net.old listeners.old) left.old.tables left.old.lacked (keeping_facts P.state P.faults left.old.keeper))
+        (daemon_outside (sink_facts K.Sink speaker.new.sink) (ports_at N.Net L.Listeners net.new listeners.new) left.new.tables left.new.lacked (keeping_facts P.state P.faults left.new.keeper)) result.is_whole result.status }
 {
     match serve_locked(shared, filling, net, listeners, speaker, left) {
         Ok(totals) => {
@@ -228,8 +234,8 @@ fn stay_up<
     requires tables { left.old.tables ≡ [] }
     requires uncounted { left.old.lacked ≡ 0 }
     ensures { ServesOrNot read.now.options read.now.ports read.now.streams start.base filling.items
-        (daemon_outside (sink_facts K.Sink speaker.old.sink) (ports_at N.Net L.Listeners net.old listeners.old) left.old.tables left.old.lacked)
-        (daemon_outside (sink_facts K.Sink speaker.new.sink) (ports_at N.Net L.Listeners net.new listeners.new) left.new.tables left.new.lacked) result.status }
+        (daemon_outside (sink_facts K.Sink speaker.old.sink) (ports_at N.Net L.Listeners net.old listeners.old) left.old.tables left.old.lacked (keeping_facts P.state P.faults left.old.keeper))
+        (daemon_outside (sink_facts K.Sink speaker.new.sink) (ports_at N.Net L.Listeners net.new listeners.new) left.new.tables left.new.lacked (keeping_facts P.state P.faults left.new.keeper)) result.is_whole result.status }
 {
     let Ok(board) = board_of(process, start, read, filling.as_slice()) else {
         return Ended::short(DaemonStatus::NoMemory);
@@ -278,7 +284,7 @@ fn stay_up<
 // Whether there is memory for the partitions, as far as that is known.
 fn has_memory<F: Files>(alloc: Global, files: &F, options: &Options) -> bool
     requires { IsPossible options.now }
-    ensures { IsTrue result → HasMemory (files_facts F.file F.free F.faults files.now) options.now }
+    ensures { IsTrue result → HasMemory (files_facts F.file F.place F.is_free F.free F.faults files.now) options.now }
 {
     match files.free_memory(alloc) {
         Some(free) => start_bytes(options) <= free,
@@ -305,7 +311,22 @@ fn keep_up<
     net: &mut N,
     listeners: &mut L,
     left: &mut Left<Keeper<F::Place, C>>,
-) -> DaemonStatus {
+) -> DaemonStatus
+    requires options { IsPossible read.options }
+    requires fronts { ArePossibleFronts read.ports read.streams.ports }
+    requires marks { HaveMarks read.options read.streams.ports }
+    requires memory { HasMemory (files_facts F.file F.place F.is_free F.free F.faults files.now) read.options }
+    requires numbers { 0 < start.base }
+    requires unbound { N.binds net.old ≡ 0 }
+    requires tables { left.old.tables ≡ [] }
+    requires uncounted { left.old.lacked ≡ 0 }
+    ensures { LoadsAndSaves name.now (service_of read) start.base start.second (files_facts F.file F.place F.is_free F.free F.faults files.now)
+        (daemon_outside (sink_facts K.Sink speaker.old.sink) (ports_at N.Net L.Listeners net.old listeners.old) left.old.tables left.old.lacked (keeping_facts F.Place.state F.Place.faults left.old.keeper))
+        (daemon_outside (sink_facts K.Sink speaker.new.sink) (ports_at N.Net L.Listeners net.new listeners.new) left.new.tables left.new.lacked (keeping_facts F.Place.state F.Place.faults left.new.keeper)) result
+        ⊎ LoadsNothing name.now (files_facts F.file F.place F.is_free F.free F.faults files.now)
+        (daemon_outside (sink_facts K.Sink speaker.old.sink) (ports_at N.Net L.Listeners net.old listeners.old) left.old.tables left.old.lacked (keeping_facts F.Place.state F.Place.faults left.old.keeper))
+        (daemon_outside (sink_facts K.Sink speaker.new.sink) (ports_at N.Net L.Listeners net.new listeners.new) left.new.tables left.new.lacked (keeping_facts F.Place.state F.Place.faults left.new.keeper)) result }
+{
     let begun = match begin_kept(
         process.alloc,
         start,
@@ -362,9 +383,9 @@ pub fn daemon<
     requires net { N.binds net.old ≡ 0 }
     requires tables { left.old.tables ≡ [] }
     requires uncounted { left.old.lacked ≡ 0 }
-    ensures { KeepsUp (daemon_of process.now.host (map string_bytes words.now)) start.base (files_facts F.file F.free F.faults files.old) (files_facts F.file F.free F.faults files.new)
-        (daemon_outside (sink_facts K.Sink speaker.old.sink) (ports_at N.Net L.Listeners net.old listeners.old) left.old.tables left.old.lacked)
-        (daemon_outside (sink_facts K.Sink speaker.new.sink) (ports_at N.Net L.Listeners net.new listeners.new) left.new.tables left.new.lacked) result }
+    ensures { KeepsUp (daemon_of process.now.host (map string_bytes words.now)) start.base start.second (files_facts F.file F.place F.is_free F.free F.faults files.old) (files_facts F.file F.place F.is_free F.free F.faults files.new)
+        (daemon_outside (sink_facts K.Sink speaker.old.sink) (ports_at N.Net L.Listeners net.old listeners.old) left.old.tables left.old.lacked (keeping_facts F.Place.state F.Place.faults left.old.keeper))
+        (daemon_outside (sink_facts K.Sink speaker.new.sink) (ports_at N.Net L.Listeners net.new listeners.new) left.new.tables left.new.lacked (keeping_facts F.Place.state F.Place.faults left.new.keeper)) result }
 {
     let read = match read_daemon(process.alloc, words, process.host) {
         Ok(read) => read,

@@ -18,8 +18,8 @@ use Rattle.kept_items.specs.Parts.{Part, entries_of, entries_in, parts_of}
 use Rattle.kept_items.specs.Walk.{SavesAll}
 use Rattle.kept_items.specs.Left.{IsLeft, saved_mode}
 use Rattle.saved_partitions.specs.Filling.{saved_hashing}
-use Rattle.saved_partitions.specs.declared.progress.Progress.{Progress}
-use Rattle.saved_partitions.specs.declared.saving.Saving.{Saving}
+use Rattle.saved_partitions.specs.declared.state.Progress.{Progress}
+use Rattle.saved_partitions.specs.declared.state.Saving.{Saving}
 
 -- what contracts see of a file of saved items: what its names stand for, and the count of its faults
 pub record PlaceFacts : Type 0 where

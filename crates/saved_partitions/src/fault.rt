@@ -1,4 +1,5 @@
 //! Why a file was not loaded.
+ghost use Rattle.std.specs.Prelude.{◌≡◌};
 
 use saved_items::SavedFault;
 

@@ -11,9 +11,9 @@ mod flush;
 mod loading;
 mod progress;
 mod saving;
+mod state;
 mod words;
 
 pub use fault::LoadFault;
 pub use loading::{Loaded, load};
-pub use progress::Progress;
-pub use saving::Saving;
+pub use state::{Progress, Saving};

@@ -9,13 +9,13 @@ ghost use Rattle.partition_table.specs.Seats.{owner_state};
 ghost use Rattle.partition_table.specs.Tabled.{kept_seat_of};
 ghost use Rattle.locked_front.specs.Counts.{counts_after};
 ghost use Rattle.named_files.specs.Files.{KeepsFile, beside_of};
-ghost use Rattle.saved_items.specs.Items.{HeadFits};
 ghost use Rattle.saved_items.specs.Spiller.{IsFresh, HasSaved, Finishes};
 ghost use Rattle.partition_walk.specs.Listed.{AreListed};
 ghost use Rattle.kept_items.specs.Left.{saved_mode};
 ghost use Rattle.saved_partitions.specs.Filling.{saved_hashing};
 ghost use Rattle.saved_partitions.specs.Saving.{IsNewProgress, IsAsBefore, IsSoFar, SavesSeat, blank_of, progress_facts};
 
+use crate::state::Progress;
 use crate::words::{saved_hashing, saved_mode};
 use kept_items::save_part;
 use locked_front::HistoryCounts;
@@ -29,28 +29,6 @@ use partition_walk::{WordsWalk, list_items};
 use saved_items::{Closing, Head, SavedPair, SpillFault, Spiller, finish, put_head};
 use std::alloc::Global;
 use std::mem;
-
-/// What is saved so far, and the room that saving takes, which is made before anything is served: so a stop can't fail for want of it.
-#[derive(Drop)]
-pub struct Progress {
-    alloc: Global,
-    /// Whether the file was loaded, so that it is used up.
-    pub(crate) is_loaded: bool,
-    spiller: Spiller,
-    /// Where the items of a partition lie.
-    offsets: Vec<u64>,
-    pair: SavedPair,
-    pub(crate) head: Head,
-    /// Where unique numbers begin.
-    pub(crate) base: u64,
-    /// Whether a partition was shown.
-    is_begun: bool,
-    /// What it came to.
-    pub(crate) came: Result<(), SpillFault>,
-    ghost fresh: { MatchBool is_begun ⊤ (IsFresh spiller) },
-    ghost fits: { HeadFits head },
-    ghost numbers: { 0 < base },
-}
 
 // As many items as a partition may have: no more than its index has entries.
 fn most_items(options: &Options) -> usize

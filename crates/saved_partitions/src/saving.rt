@@ -11,7 +11,7 @@ ghost use Rattle.locked_front.specs.Counts.{counts_after};
 ghost use Rattle.named_files.specs.Files.{Told, IsSettled};
 ghost use Rattle.saved_partitions.specs.Saving.{saving_facts, place_facts, UsesUp, FailsToUseUp, Shows, HasCome, SavesAtEnd, SavesNot, IsNewSaving, HasAll};
 
-use crate::progress::Progress;
+use crate::state::{Progress, Saving};
 use locked_front::HistoryCounts;
 use named_files::{Place, put_in_place, use_up};
 use outside::NoMemory;
@@ -20,14 +20,6 @@ use partition_table::OwnerSeat;
 use saved_items::SpillFault;
 use std::alloc::Global;
 use std::marker::Brand;
-
-/// A file of saved items, of which a crash leaves what a read gives, and what is saved so far.
-#[derive(Drop)]
-pub struct Saving<P: Place> {
-    pub place: P,
-    pub progress: Progress,
-    ghost settled: { Told (P.state place) IsSettled },
-}
 
 impl<P: Place + Drop> Saving<P> {
     /// For partitions of these options, whose unique numbers begin at the base.
