@@ -1,3 +1,4 @@
+pub mod Once
 pub mod Loads
 pub mod Short
 pub mod Asked

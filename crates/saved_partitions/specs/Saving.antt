@@ -6,6 +6,8 @@ use Rattle.outside.specs.Faults.{Rose}
 use Rattle.partition_model.specs.declared.options.Options.{Options}
 use Rattle.partition_words.specs.Shape.{options_of}
 use Rattle.partition_table.specs.declared.tables.KeptSeat.{KeptSeat}
+use Rattle.outside.specs.declared.source.Source.{Ghosts as SourceTells}
+use Rattle.named_files.specs.declared.place.Place.{Ghosts as PlaceTells}
 use Rattle.named_files.specs.Files.{FileState, Told, IsSettled, LeavesEither, KeepsFile, seen, beside_of}
 use Rattle.saved_items.specs.declared.fault.SpillFault.{SpillFault}
 use Rattle.saved_items.specs.declared.fault.SpillFault.TheVariants as spill
@@ -47,11 +49,11 @@ progress_facts state faults progress = record {
   came = progress.came;
 }
 
-abbrev pub place_facts : {P : Type 0} → (P → Option FileState) → (P → ℕ) → P → PlaceFacts
-place_facts state faults place = record { state = state place; faults = faults place }
+abbrev pub place_facts : {P S : Type 0} → PlaceTells P S → P → PlaceFacts
+place_facts tells place = record { state = tells.state place; faults = tells.faults place }
 
-abbrev pub saving_facts : {P : Type 0} → (P → Option FileState) → (P → ℕ) → Saving P → SavingFacts
-saving_facts state faults saving = progress_facts (state saving.place) (faults saving.place) saving.progress
+abbrev pub saving_facts : {P S : Type 0} {opened : SourceTells S} → (tells : PlaceTells P S) → Saving P S tells opened → SavingFacts
+saving_facts tells saving = progress_facts (tells.state saving.place) (tells.faults saving.place) saving.progress
 
 -- For partitions of these options nothing was saved yet.
 pub record IsNewProgress (options : Options) (base : ℕ) (is_loaded : Bool) (progress : Progress) : Type 0 where

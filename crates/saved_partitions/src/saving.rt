@@ -33,7 +33,7 @@ impl<P: Place + Drop> Saving<P> {
         requires settled { Told (P.state place) IsSettled }
         requires numbers { 0 < base }
         requires options { IsPossible options.now }
-        ensures { IfOk result (λ saving. IsNewSaving options.now base is_loaded (P.state place) (P.faults place) (saving_facts P.state P.faults saving)) }
+        ensures { IfOk result (λ saving. IsNewSaving options.now base is_loaded (P.state place) (P.faults place) (saving_facts P.Place saving)) }
     {
         let progress = Progress::new(alloc, is_loaded, options, base)?;
         Ok(Saving { place, progress })
@@ -41,8 +41,8 @@ impl<P: Place + Drop> Saving<P> {
 
     /// Takes the name from a file that was loaded, so that it is used once. Where that fails, the answer is its place.
     pub fn use_up(self) -> Result<Saving<P>, P>
-        ensures used { IfOk result (λ saving. UsesUp (saving_facts P.state P.faults self) (saving_facts P.state P.faults saving)) }
-        ensures failed { IfErr result (λ place. FailsToUseUp (place_facts P.state P.faults self.place) (place_facts P.state P.faults place)) }
+        ensures used { IfOk result (λ saving. UsesUp (saving_facts P.Place self) (saving_facts P.Place saving)) }
+        ensures failed { IfErr result (λ place. FailsToUseUp (place_facts P.Place self.place) (place_facts P.Place place)) }
     {
         if !self.progress.is_loaded {
             return Ok(self);
@@ -64,7 +64,7 @@ impl<P: Place + Drop> Saving<P> {
         requires idle { (owner_state seat).phase ≡ Idle }
         requires counts { counts.now ≡ counts_after (options_in (owner_state seat)) (owner_state seat).history }
         ensures same { owner_state result.1 ≡ owner_state seat }
-        ensures shown { Shows (saving_facts P.state P.faults self) (kept_seat_of seat) (saving_facts P.state P.faults result.0) }
+        ensures shown { Shows (saving_facts P.Place self) (kept_seat_of seat) (saving_facts P.Place result.0) }
     {
         let Saving {
             place,
@@ -77,11 +77,11 @@ impl<P: Place + Drop> Saving<P> {
 
     /// Gives the file its name, once all partitions were saved. Says why it has it not.
     pub fn end(self) -> (P, Result<(), SpillFault>)
-        ensures saved { OnOk result.1 ((tables : List KeptSeat) → HasCome (saving_facts P.state P.faults self) tables → HasAll self.progress.head tables
+        ensures saved { OnOk result.1 ((tables : List KeptSeat) → HasCome (saving_facts P.Place self) tables → HasAll self.progress.head tables
             → SavesAtEnd self.progress.base tables (P.state self.place) (P.state result.0)) }
-        ensures unsaved { OnErr result.1 ((tables : List KeptSeat) → HasCome (saving_facts P.state P.faults self) tables → HasAll self.progress.head tables
+        ensures unsaved { OnErr result.1 ((tables : List KeptSeat) → HasCome (saving_facts P.Place self) tables → HasAll self.progress.head tables
             → SavesNot self.progress.base tables (P.state self.place) (P.state result.0)) }
-        ensures cause { IsErrOf result.1 SpillFault.Failed → (tables : List KeptSeat) → HasCome (saving_facts P.state P.faults self) tables → 0 < P.faults result.0 }
+        ensures cause { IsErrOf result.1 SpillFault.Failed → (tables : List KeptSeat) → HasCome (saving_facts P.Place self) tables → 0 < P.faults result.0 }
     {
         let Saving {
             place,

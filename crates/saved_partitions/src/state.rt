@@ -4,6 +4,7 @@ ghost use Rattle.std.specs.Bool.{MatchBool};
 ghost use Rattle.named_files.specs.Files.{Told, IsSettled};
 ghost use Rattle.saved_items.specs.Items.{HeadFits};
 ghost use Rattle.saved_items.specs.Spiller.{IsFresh};
+ghost use Rattle.saved_partitions.proofs.Once.{fresh_once, head_once, settled_once};
 
 use named_files::Place;
 use saved_items::{Head, SavedPair, SpillFault, Spiller};
@@ -26,8 +27,8 @@ pub struct Progress {
     pub(crate) is_begun: bool,
     /// What it came to.
     pub(crate) came: Result<(), SpillFault>,
-    ghost fresh: { MatchBool is_begun ⊤ (IsFresh spiller) },
-    ghost fits: { HeadFits head },
+    ghost fresh: { MatchBool is_begun ⊤ (IsFresh spiller) } by { fresh_once is_begun spiller },
+    ghost fits: { HeadFits head } by { head_once head },
     ghost numbers: { 0 < base },
 }
 
@@ -36,5 +37,5 @@ pub struct Progress {
 pub struct Saving<P: Place> {
     pub place: P,
     pub progress: Progress,
-    ghost settled: { Told (P.state place) IsSettled },
+    ghost settled: { Told (P.state place) IsSettled } by { settled_once (P.state place) },
 }
