@@ -63,7 +63,6 @@ use Rattle.memcached_text.specs.declared.command.Wants.TheVariants.{Numbered}
 use Rattle.memcached_text.specs.declared.limits.TheConstants.{MAX_KEY_LEN}
 use Rattle.memcached_commands.specs.declared.asks.Asked.{Asked}
 use Rattle.memcached_frames.specs.declared.frame.FrameFault.TheVariants.{Unknown, Invalid, TooLarge}
-use Rattle.mica_words.specs.Mark.{is_mark}
 use Rattle.client_stories.specs.Stories.{AreBytes, AreFirst, BytesAskFit}
 
 -- Lines
@@ -328,17 +327,10 @@ asks_of_fit (Whole (Stats topic) style len last) fit = tt
 asks_of_fit (Whole (Said says) style len last) fit = tt
 asks_of_fit More fit = tt
 
-both : (all : List Asked) → AllByRecursion IsFitAsked all → AllByRecursion (λ a. is_mark a.key ≡ false) all → AllByRecursion (λ a. IsFitAsked a × (is_mark a.key ≡ false)) all
-both [] fits feeds = tt
-both (a ∷ all) fits feeds = ((fits.0, feeds.0), both all fits.1 feeds.1)
-
-all_fit : (bytes : List ℕ) (nexts : List Next) → AreBytes bytes → AreFirst bytes nexts → AllByRecursion (λ next. AllByRecursion (λ a. is_mark a.key ≡ false) (asks_in next)) nexts
-    → AllByRecursion (λ next. AllByRecursion (λ a. IsFitAsked a × (is_mark a.key ≡ false)) (asks_in next)) nexts
-all_fit bytes [] are first feeds = tt
-all_fit bytes (next ∷ nexts) are first feeds = (
-  both (asks_in next) (asks_of_fit next (subst IsFitNext first.0 (next_fits bytes are))) feeds.0,
-  all_fit (drop (len_of next) bytes) nexts (low_drop (len_of next) bytes are) first.1 feeds.1,
-)
+all_fit : (bytes : List ℕ) (nexts : List Next) → AreBytes bytes → AreFirst bytes nexts → AllByRecursion (λ next. AllByRecursion IsFitAsked (asks_in next)) nexts
+all_fit bytes [] are first = tt
+all_fit bytes (next ∷ nexts) are first =
+    (asks_of_fit next (subst IsFitNext first.0 (next_fits bytes are)), all_fit (drop (len_of next) bytes) nexts (low_drop (len_of next) bytes are) first.1)
 
 pub fit_asks : BytesAskFit
-fit_asks bytes are feeds nexts first = all_fit bytes nexts are first (feeds nexts first)
+fit_asks bytes are nexts first = all_fit bytes nexts are first

@@ -1,5 +1,5 @@
 -- What the threads of a server did, and what its clients said.
-use Rattle.std.specs.Prelude.{◌≡◌, ◌≤◌, ◌<◌, ◌+◌, ◌^◌, ⊤, ℕ, false, List, [], ◌∷◌, drop, length, min, slice_get, Some}
+use Rattle.std.specs.Prelude.{◌≡◌, ◌≤◌, ◌<◌, ◌+◌, ◌^◌, ⊤, ℕ, List, [], ◌∷◌, drop, length, min, slice_get, Some}
 use Rattle.std.specs.List.{AllByRecursion}
 use Rattle.outside.specs.Faults.{LAST_COUNT}
 use Rattle.partition_model.specs.declared.options.Mode.TheVariants.{Store}
@@ -9,7 +9,6 @@ use Rattle.memcached_requests.specs.declared.request.Next.{Next}
 use Rattle.memcached_requests.specs.Next.{next_of}
 use Rattle.memcached_requests.specs.Requests.{asks_in, len_of}
 use Rattle.fronts.specs.Answered.{Answered}
-use Rattle.mica_words.specs.Mark.{is_mark}
 use Rattle.fronts.specs.Placed.{Placed}
 use Rattle.connections.specs.Log.{Log, received_of}
 use Rattle.connection_loop.specs.Given.{Given}
@@ -26,21 +25,16 @@ abbrev pub AreFirst : List ℕ → List Next → Type 0
 AreFirst bytes [] = ⊤
 AreFirst bytes (next ∷ later) = (next_of bytes ≡ next) × AreFirst (drop (len_of next) bytes) later
 
--- What bytes ask of keys is fit, and none of these is as long as a mark.
+-- What bytes ask of keys is fit.
 abbrev pub AsksFit : List ℕ → Type 0
-AsksFit bytes = (nexts : List Next) → AreFirst bytes nexts
-    → AllByRecursion (λ next. AllByRecursion (λ asked. IsFitAsked asked × (is_mark asked.key ≡ false)) (asks_in next)) nexts
+AsksFit bytes = (nexts : List Next) → AreFirst bytes nexts → AllByRecursion (λ next. AllByRecursion IsFitAsked (asks_in next)) nexts
 
 abbrev pub AreBytes : List ℕ → Type 0
 AreBytes bytes = AllByRecursion (λ b. b < 256) bytes
 
--- No key that bytes name is as long as a mark.
-abbrev pub NamesNoFeed : List ℕ → Type 0
-NamesNoFeed bytes = (nexts : List Next) → AreFirst bytes nexts → AllByRecursion (λ next. AllByRecursion (λ asked. is_mark asked.key ≡ false) (asks_in next)) nexts
-
--- By the grammar all else that is asked is fit.
+-- By the grammar it is.
 abbrev pub BytesAskFit : Type 0
-BytesAskFit = (bytes : List ℕ) → AreBytes bytes → NamesNoFeed bytes → AsksFit bytes
+BytesAskFit = (bytes : List ℕ) → AreBytes bytes → AsksFit bytes
 
 -- A front talked so with the clients of its share, whose log was this one before and that one after. It counted no fewer connections for which memory lacked.
 pub record Talked (options : Options) (base most in_all lacked : ℕ) (answers : List Answered) (before after : Log) : Type 0 where

@@ -40,15 +40,15 @@ AnswersAlone question old new Answered = Appends old.taken new.taken (answer_tex
 AnswersAlone question old new (Ended status) = IsUnwritten old new status ⊎ ((status ≡ WriteFault) × Rose old.faults new.faults)
 
 -- What words came to on a host. A question of theirs was answered, and nothing was served; or their server ran, with each short word as the long one that it stands for.
-abbrev pub ComesTo : Host → Option Question → List Text → ℕ → FilesFacts → FilesFacts → DaemonOutside → DaemonOutside → Ending → Type 0
-ComesTo host (Some question) words base before after old new ending = AnswersAlone question old.sink new.sink ending × BindsNothing old new × (after ≡ before)
-ComesTo host None words base before after old new Answered = ⊥
-ComesTo host None words base before after old new (Ended status) = KeepsUp (daemon_of host (long_words words)) base before after old new status
+abbrev pub ComesTo : Host → Option Question → List Text → ℕ → ℕ → FilesFacts → FilesFacts → DaemonOutside → DaemonOutside → Ending → Type 0
+ComesTo host (Some question) words base second before after old new ending = AnswersAlone question old.sink new.sink ending × BindsNothing old new × (after ≡ before)
+ComesTo host None words base second before after old new Answered = ⊥
+ComesTo host None words base second before after old new (Ended status) = KeepsUp (daemon_of host (long_words words)) base second before after old new status
 
 -- A run comes to what these words ask for; or there was no memory for words, and it touched nothing.
-abbrev pub ComesToFor : Host → Option (List Text) → ℕ → FilesFacts → FilesFacts → DaemonOutside → DaemonOutside → Ending → Type 0
-ComesToFor host None base before after old new ending = (ending ≡ Ended NoMemory) × (new ≡ old) × (after ≡ before)
-ComesToFor host (Some words) base before after old new ending = ComesTo host (question_of words) words base before after old new ending
+abbrev pub ComesToFor : Host → Option (List Text) → ℕ → ℕ → FilesFacts → FilesFacts → DaemonOutside → DaemonOutside → Ending → Type 0
+ComesToFor host None base second before after old new ending = (ending ≡ Ended NoMemory) × (new ≡ old) × (after ≡ before)
+ComesToFor host (Some words) base second before after old new ending = ComesTo host (question_of words) words base second before after old new ending
 
 -- The process ends with the number of what these words come to. Its clock was read once, and unique numbers begin at those of the second that it gave.
 pub record DaemonExits (host : Host) (words : Option (List Text)) (told tells : ClockView) (before after : FilesFacts) (old new : DaemonOutside) (number : ℕ) : Type 0 where
@@ -57,7 +57,7 @@ pub record DaemonExits (host : Host) (words : Option (List Text)) (told tells : 
   pub second : ℕ
   pub read : IsReading told second
   pub once : tells ≡ once_read second told
-  pub comes : ComesToFor host words (first_number second) before after old new ending
+  pub comes : ComesToFor host words (first_number second) second before after old new ending
 
 -- words ask a question
 abbrev pub IsAsked : Option (List Text) → Type 0

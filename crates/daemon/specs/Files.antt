@@ -8,15 +8,18 @@ use Rattle.named_files.specs.Memory.{settled}
 use Rattle.option_words.specs.Words.{Text}
 use Rattle.daemon.specs.declared.memory_files.MemFile.{MemFile}
 
--- at one moment: the bytes of each file by its name and of the memory that is free, where they are told, and the count of faults
+-- at one moment: of each file by its name its bytes, what it stands for and whether its lock is free, and how many bytes of memory are free, where they are told; and
+-- the count of faults
 pub record FilesFacts : Type 0 where
   pub file : Text → Option (List ℕ)
+  pub place : Text → Option FileState
+  pub is_free : Text → Option Bool
   pub free : Option ℕ
   pub faults : ℕ
 
 -- by what files tell
-abbrev pub files_facts : {F : Type 0} → (F → Text → Option (List ℕ)) → (F → Option ℕ) → (F → ℕ) → F → FilesFacts
-files_facts file free faults = λ f. record { file = file f; free = free f; faults = faults f }
+abbrev pub files_facts : {F : Type 0} → (F → Text → Option (List ℕ)) → (F → Text → Option FileState) → (F → Text → Option Bool) → (F → Option ℕ) → (F → ℕ) → F → FilesFacts
+files_facts file place is_free free faults = λ f. record { file = file f; place = place f; is_free = is_free f; free = free f; faults = faults f }
 
 -- what files over memory tell of the reads of one name beforehand: whether there is such a file, which reads fail, and how many were made of all names
 pub record ReadScript : Type 0 where

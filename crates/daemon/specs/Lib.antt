@@ -5,6 +5,5 @@ pub mod Files
 pub mod Filling
 pub mod Daemon
 pub mod Headline
-pub mod Saved
-pub mod Saving
+pub mod Keeping
 pub mod Journal

@@ -1,5 +1,5 @@
 //! Files, by their names.
-ghost use Rattle.std.specs.Prelude.{◌≡◌, ◌<◌, ◌≤◌, ℕ, List, Option, Some, option_map, length, vec_len, IfOk, IfSome, IsErrOf};
+ghost use Rattle.std.specs.Prelude.{◌≡◌, ◌<◌, ◌≤◌, ℕ, Bool, List, Option, Some, option_map, length, vec_len, IfOk, IfSome, IsErrOf};
 ghost use Rattle.outside.specs.Faults.{Rose, faults_after};
 ghost use Rattle.named_files.specs.Files.{FileState, Told, IsSettled};
 ghost use Rattle.daemon.specs.Files.{ReadScript, is_next_failing, after_read, has_failed, Foretells};
@@ -19,6 +19,9 @@ pub trait Files {
     /// What the file of a name stands for and what is on the disk, where that is told.
     ghost place: { Self → List ℕ → Option FileState };
 
+    /// Whether nobody else has the lock of the file of a name, where that is told.
+    ghost is_free: { Self → List ℕ → Option Bool };
+
     /// The count of faults.
     ghost faults: { Self → ℕ };
 
@@ -35,6 +38,7 @@ pub trait Files {
     /// The file of this name, as one that has to survive a crash. No call of it has failed.
     fn place(&self, alloc: Global, name: &str) -> Result<Self::Place, NoMemory>
         ensures state { IfOk result (λ p. Self.Place.state p ≡ place self.now name.now) }
+        ensures free { IfOk result (λ p. Self.Place.is_free p ≡ is_free self.now name.now) }
         ensures settled { IfOk result (λ p. Told (Self.Place.state p) IsSettled) }
         ensures faults { IfOk result (λ p. Self.Place.faults p ≡ 0) };
 

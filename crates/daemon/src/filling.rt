@@ -24,7 +24,7 @@ fn read_file<F: Files, K: Sink>(
 ) -> Result<Vec<u8>, DaemonStatus>
     ensures all { IfOk result (λ bytes. OfFile (F.file files.old name.now) (λ b. bytes.items ≡ b)) }
     ensures unwritten { OnOk result (sink.new ≡ sink.old) }
-    ensures stopped { IfErr result (λ status. WritesDue (IsDueOfFile (files_facts F.file F.free F.faults files.old) (files_facts F.file F.free F.faults files.new) (Some name.now))
+    ensures stopped { IfErr result (λ status. WritesDue (IsDueOfFile (files_facts F.file F.place F.is_free F.free F.faults files.old) (files_facts F.file F.place F.is_free F.free F.faults files.new) (Some name.now))
         (sink_facts K.Sink sink.old) (sink_facts K.Sink sink.new) status) }
     ensures never_fall { F.faults files.old ≤ F.faults files.new }
 {
@@ -70,12 +70,12 @@ pub(crate) fn filling_of<F: Files, K: Sink>(
     image: Option<&str>,
     sink: &mut K,
 ) -> Result<Vec<Write>, DaemonStatus>
-    ensures fills { IfOk result (λ writes. Fills (files_facts F.file F.free F.faults files.old) (option_map (λ name. name.now) image.entry) writes.items) }
+    ensures fills { IfOk result (λ writes. Fills (files_facts F.file F.place F.is_free F.free F.faults files.old) (option_map (λ name. name.now) image.entry) writes.items) }
     ensures are_writes { IfOk result (λ writes. All IsWrite writes.items) }
     ensures unwritten { OnOk result (sink.new ≡ sink.old) }
-    ensures stopped { IfErr result (λ status. WritesDue (IsDueOfFile (files_facts F.file F.free F.faults files.old) (files_facts F.file F.free F.faults files.new) (option_map (λ name. name.now) image.entry))
+    ensures stopped { IfErr result (λ status. WritesDue (IsDueOfFile (files_facts F.file F.place F.is_free F.free F.faults files.old) (files_facts F.file F.place F.is_free F.free F.faults files.new) (option_map (λ name. name.now) image.entry))
         (sink_facts K.Sink sink.old) (sink_facts K.Sink sink.new) status) }
-    ensures files { KeepsFiles (option_map (λ name. name.now) image.entry) (files_facts F.file F.free F.faults files.old) (files_facts F.file F.free F.faults files.new) }
+    ensures files { KeepsFiles (option_map (λ name. name.now) image.entry) (files_facts F.file F.place F.is_free F.free F.faults files.old) (files_facts F.file F.place F.is_free F.free F.faults files.new) }
 {
     let Some(name) = image else {
         return Ok(Vec::new(alloc));

@@ -1,24 +1,29 @@
 //! The beginning and the end of a server that keeps its items.
 
-use crate::loading::{LoadFault, Loaded, load};
 use crate::output::write_due;
-use crate::saving::Saving;
-use crate::{DaemonStatus, Files, Process, Start};
+use crate::{DaemonStatus, Files, Start};
 use named_files::Place;
-use outside::{Sink, Source};
+use outside::{NoMemory, Sink, Source};
 use partition_model::{Options, Write};
 use saved_items::SavedFault;
+use saved_partitions::{LoadFault, Loaded, Saving, load};
 use std::alloc::Global;
-use std::sync::Wait;
 
 /// What fills the partitions, where numbers begin, and what is at hand for the end.
 #[derive(Drop)]
-pub(crate) struct Begun<P> {
+pub(crate) struct Begun<P: Place> {
     pub filling: Vec<Write>,
     pub start: Start,
     /// Those that the words give, with the hashing of the file.
     pub options: Options,
     pub saving: Saving<P>,
+}
+
+/// What a server ends with that could not begin, and the place of its file.
+#[derive(Drop)]
+pub(crate) struct Unbegun<P> {
+    pub status: DaemonStatus,
+    pub place: Option<P>,
 }
 
 // Writes the line of what is wrong with a file.
@@ -45,30 +50,24 @@ fn loaded_of<S: Source + Drop, K: Sink>(
     options: &Options,
     second: u64,
     sink: &mut K,
-) -> Result<Loaded, DaemonStatus> {
-    let Some(source) = opened else {
-        return Ok(Loaded {
-            writes: Vec::new(alloc),
-            hashing: options.hashing,
-            next: 0,
-            is_there: false,
-        });
+) -> Result<Option<Loaded>, DaemonStatus> {
+    let Some(mut source) = opened else {
+        return Ok(None);
     };
-    let mut source = source;
     match load(alloc, &mut source, options, second) {
-        Ok(loaded) => Ok(loaded),
+        Ok(loaded) => Ok(Some(loaded)),
         Err(fault) => Err(refuse(alloc, sink, fault)),
     }
 }
 
-// Has the lock of the file, and what it has. Else what is due is written, and the answer is its status.
+// Has the lock of the file, and what it has, where there is one. Else what is due is written, and the answer is its status.
 fn load_place<P: Place, K: Sink>(
     alloc: Global,
     place: &mut P,
     options: &Options,
     second: u64,
     sink: &mut K,
-) -> Result<Loaded, DaemonStatus> {
+) -> Result<Option<Loaded>, DaemonStatus> {
     match place.lock() {
         Ok(true) => {}
         _ => return Err(write_due(sink, b"save fault\n", DaemonStatus::SaveFault)),
@@ -80,30 +79,26 @@ fn load_place<P: Place, K: Sink>(
     loaded_of(alloc, opened, options, second, sink)
 }
 
-/// Loads the file of this name, where there is one, and has it at hand for the end. Else what is due is written, and the answer is its status.
-pub(crate) fn begin_kept<W: Wait, G, F: Files, K: Sink>(
-    process: &Process<W, G>,
+// With what was loaded, or with nothing.
+fn begun_of<P: Place + Drop>(
+    alloc: Global,
+    place: P,
+    loaded: Option<Loaded>,
     start: Start,
-    files: &F,
-    name: &str,
     options: &Options,
-    sink: &mut K,
-) -> Result<Begun<F::Place>, DaemonStatus> {
-    let alloc = process.alloc;
-    let Ok(mut place) = files.place(alloc, name) else {
-        return Err(DaemonStatus::NoMemory);
-    };
-    let loaded = match load_place(alloc, &mut place, options, start.second, sink) {
-        Ok(loaded) => loaded,
-        Err(status) => return Err(status),
+) -> Result<Begun<P>, NoMemory> {
+    let Some(loaded) = loaded else {
+        return Ok(Begun {
+            filling: Vec::new(alloc),
+            start,
+            options: *options,
+            saving: Saving::new(alloc, place, false, options, start.base)?,
+        });
     };
     let base = start.base.max(loaded.next);
     let options = Options {
         hashing: loaded.hashing,
         ..*options
-    };
-    let Ok(saving) = Saving::new(alloc, place, loaded.is_there, &options, base) else {
-        return Err(DaemonStatus::NoMemory);
     };
     Ok(Begun {
         filling: loaded.writes,
@@ -112,6 +107,39 @@ pub(crate) fn begin_kept<W: Wait, G, F: Files, K: Sink>(
             base,
         },
         options,
-        saving,
+        saving: Saving::new(alloc, place, true, &options, base)?,
     })
+}
+
+/// Loads the file of this name, where there is one, and has it at hand for the end. Else what is due is written, and the answer is its status.
+pub(crate) fn begin_kept<F: Files, K: Sink>(
+    alloc: Global,
+    start: Start,
+    files: &F,
+    name: &str,
+    options: &Options,
+    sink: &mut K,
+) -> Result<Begun<F::Place>, Unbegun<F::Place>> {
+    let Ok(mut place) = files.place(alloc, name) else {
+        return Err(Unbegun {
+            status: DaemonStatus::NoMemory,
+            place: None,
+        });
+    };
+    let loaded = match load_place(alloc, &mut place, options, start.second, sink) {
+        Ok(loaded) => loaded,
+        Err(status) => {
+            return Err(Unbegun {
+                status,
+                place: Some(place),
+            });
+        }
+    };
+    match begun_of(alloc, place, loaded, start, options) {
+        Ok(begun) => Ok(begun),
+        Err(NoMemory) => Err(Unbegun {
+            status: DaemonStatus::NoMemory,
+            place: None,
+        }),
+    }
 }

@@ -121,6 +121,8 @@ impl Files for MemFiles {
 
     ghost place = { λ f name. Some (new_place (file_in f.files.items name)) };
 
+    ghost is_free = { λ _ _. Some true };
+
     ghost faults = { λ f. f.faults };
 
     ghost script = { λ f name. Some (script_of f.calls (named_in f.files.items name)) };

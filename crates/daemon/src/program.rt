@@ -7,6 +7,7 @@ ghost use Rattle.option_words.specs.ProgramWords.{words_of};
 ghost use Rattle.daemon_words.specs.Questions.{question_of};
 ghost use Rattle.daemon.specs.Numbers.{ending_number};
 ghost use Rattle.daemon.specs.Files.{files_facts};
+ghost use Rattle.daemon.specs.Keeping.{keeping_facts};
 ghost use Rattle.daemon.specs.Daemon.{daemon_outside};
 ghost use Rattle.daemon.specs.Exit.{first_number, BeginsAbove, BeginsExact, AnswersAlone, ComesTo, DaemonExits};
 
@@ -95,9 +96,9 @@ fn serve_words<
     requires net { N.binds net.old ≡ 0 }
     requires tables { left.old.tables ≡ [] }
     requires uncounted { left.old.lacked ≡ 0 }
-    ensures { ComesTo process.now.host None (map string_bytes words.now) start.base (files_facts F.file F.free F.faults files.old) (files_facts F.file F.free F.faults files.new)
-        (daemon_outside (sink_facts K.Sink speaker.old.sink) (ports_at N.Net L.Listeners net.old listeners.old) left.old.tables left.old.lacked)
-        (daemon_outside (sink_facts K.Sink speaker.new.sink) (ports_at N.Net L.Listeners net.new listeners.new) left.new.tables left.new.lacked) result }
+    ensures { ComesTo process.now.host None (map string_bytes words.now) start.base start.second (files_facts F.file F.place F.is_free F.free F.faults files.old) (files_facts F.file F.place F.is_free F.free F.faults files.new)
+        (daemon_outside (sink_facts K.Sink speaker.old.sink) (ports_at N.Net L.Listeners net.old listeners.old) left.old.tables left.old.lacked (keeping_facts F.Place.state F.Place.faults left.old.keeper))
+        (daemon_outside (sink_facts K.Sink speaker.new.sink) (ports_at N.Net L.Listeners net.new listeners.new) left.new.tables left.new.lacked (keeping_facts F.Place.state F.Place.faults left.new.keeper)) result }
 {
     match long_words(process.alloc, words) {
         Ok(long) => {
@@ -140,9 +141,9 @@ pub fn answer_or_serve<
     requires net { N.binds net.old ≡ 0 }
     requires tables { left.old.tables ≡ [] }
     requires uncounted { left.old.lacked ≡ 0 }
-    ensures { ComesTo process.now.host (question_of (map string_bytes words.now)) (map string_bytes words.now) start.base (files_facts F.file F.free F.faults files.old) (files_facts F.file F.free F.faults files.new)
-        (daemon_outside (sink_facts K.Sink speaker.old.sink) (ports_at N.Net L.Listeners net.old listeners.old) left.old.tables left.old.lacked)
-        (daemon_outside (sink_facts K.Sink speaker.new.sink) (ports_at N.Net L.Listeners net.new listeners.new) left.new.tables left.new.lacked) result }
+    ensures { ComesTo process.now.host (question_of (map string_bytes words.now)) (map string_bytes words.now) start.base start.second (files_facts F.file F.place F.is_free F.free F.faults files.old) (files_facts F.file F.place F.is_free F.free F.faults files.new)
+        (daemon_outside (sink_facts K.Sink speaker.old.sink) (ports_at N.Net L.Listeners net.old listeners.old) left.old.tables left.old.lacked (keeping_facts F.Place.state F.Place.faults left.old.keeper))
+        (daemon_outside (sink_facts K.Sink speaker.new.sink) (ports_at N.Net L.Listeners net.new listeners.new) left.new.tables left.new.lacked (keeping_facts F.Place.state F.Place.faults left.new.keeper)) result }
 {
     match question_of(words) {
         Some(question) => answer(question, &mut speaker.sink),
@@ -173,9 +174,9 @@ pub fn run_daemon<
     requires net { N.binds net.old ≡ 0 }
     requires tables { left.old.tables ≡ [] }
     requires uncounted { left.old.lacked ≡ 0 }
-    ensures { DaemonExits process.now.host (words_of string_bytes args) (C.view clock.old) (C.view clock.new) (files_facts F.file F.free F.faults files.old) (files_facts F.file F.free F.faults files.new)
-        (daemon_outside (sink_facts K.Sink speaker.old.sink) (ports_at N.Net L.Listeners net.old listeners.old) left.old.tables left.old.lacked)
-        (daemon_outside (sink_facts K.Sink speaker.new.sink) (ports_at N.Net L.Listeners net.new listeners.new) left.new.tables left.new.lacked) (exit_status result) }
+    ensures { DaemonExits process.now.host (words_of string_bytes args) (C.view clock.old) (C.view clock.new) (files_facts F.file F.place F.is_free F.free F.faults files.old) (files_facts F.file F.place F.is_free F.free F.faults files.new)
+        (daemon_outside (sink_facts K.Sink speaker.old.sink) (ports_at N.Net L.Listeners net.old listeners.old) left.old.tables left.old.lacked (keeping_facts F.Place.state F.Place.faults left.old.keeper))
+        (daemon_outside (sink_facts K.Sink speaker.new.sink) (ports_at N.Net L.Listeners net.new listeners.new) left.new.tables left.new.lacked (keeping_facts F.Place.state F.Place.faults left.new.keeper)) (exit_status result) }
 {
     let second = clock.second();
     let start = Start {

@@ -11,11 +11,12 @@ ghost use Rattle.server_words.specs.Output.{sink_facts};
 ghost use Rattle.daemon.specs.declared.status.DaemonStatus.TheVariants.{NetFault, Stopped, UsedUp};
 ghost use Rattle.daemon.specs.Written.{IsTold};
 ghost use Rattle.daemon.specs.Files.{files_facts};
-ghost use Rattle.daemon.specs.Daemon.{HasMemory, WritesLast, ServesAloud, ServesOrNot, KeepsUp, daemon_outside, ready_text, unbound_text};
+ghost use Rattle.daemon.specs.Keeping.{keeping_facts, TellsBehind, EndsKept};
+ghost use Rattle.daemon.specs.Daemon.{HasMemory, WritesLast, ServesAloud, ServesOrNot, LoadsAndSaves, LoadsNothing, KeepsUp, daemon_outside, ready_text, unbound_text};
 
 use crate::board::board_of;
 use crate::filling::filling_of;
-use crate::kept::begin_kept;
+use crate::kept::{Unbegun, begin_kept};
 use crate::output::{print_totals, write_due};
 use crate::places::{buffers_of, places_of};
 use crate::process::{Process, Start};
@@ -70,22 +71,97 @@ fn status_at_totals(stopping: &AtomicBool) -> DaemonStatus
     }
 }
 
-// Writes whether items were saved, where that was asked, behind the totals.
+/// What a server came to, and whether that is totals: then its partitions are at hand.
+#[derive(Clone, Copy)]
+struct Ended {
+    status: DaemonStatus,
+    is_whole: bool,
+}
+
+impl Ended {
+    // It stopped short, or did not begin.
+    fn short(status: DaemonStatus) -> Ended
+        ensures status { result.status ≡ status }
+        ensures short { result.is_whole ≡ false }
+    {
+        Ended {
+            status,
+            is_whole: false,
+        }
+    }
+}
+
+// Writes whether items were saved, behind the totals.
 fn tell_kept<K: Sink>(
     status: DaemonStatus,
-    kept: Result<(), SpillFault>,
-    is_asked: bool,
+    came: Result<(), SpillFault>,
     sink: &mut K,
-) -> DaemonStatus {
+) -> DaemonStatus
+    ensures { TellsBehind came status (sink_facts K.Sink sink.old) (sink_facts K.Sink sink.new) result }
+{
     match status {
         DaemonStatus::Stopped | DaemonStatus::UsedUp => {}
         _ => return status,
     }
-    match kept {
-        Ok(()) if is_asked => write_due(sink, b"saved\n", status),
-        Ok(()) => status,
+    match came {
+        Ok(()) => write_due(sink, b"saved\n", status),
         Err(SpillFault::NoMemory) => DaemonStatus::NoMemory,
         Err(SpillFault::Failed) => write_due(sink, b"save fault\n", DaemonStatus::SaveFault),
+    }
+}
+
+// Saves what a server leaves that came to totals, where that was asked.
+fn end_kept<P: Place + Drop, C: Clock + Drop, K: Sink>(
+    ended: Ended,
+    keeper: &mut Keeper<P, C>,
+    sink: &mut K,
+) -> DaemonStatus
+    ensures { EndsKept ended.is_whole (keeping_facts P.state P.faults keeper.old) (keeping_facts P.state P.faults keeper.new) ended.status
+        (sink_facts K.Sink sink.old) (sink_facts K.Sink sink.new) result }
+{
+    if !ended.is_whole {
+        return ended.status;
+    }
+    match keeper.end() {
+        Some(came) => tell_kept(ended.status, came, sink),
+        None => ended.status,
+    }
+}
+
+// Writes why a server stopped short, and notes it.
+fn stopped_short<W: Sync, K: Sink + Drop, G>(
+    shared: &Shared<W, G>,
+    streams: &StreamOptions,
+    stop: Stop,
+    speaker: &mut Speaker<K>,
+) -> DaemonStatus
+    requires service { IsPossibleService shared.now.service }
+    ensures { WritesLast streams.now.ports.port (Err stop) (sink_facts K.Sink speaker.old.sink) (sink_facts K.Sink speaker.new.sink) result }
+{
+    match stop {
+        Stop::Refused => write_due(
+            &mut speaker.sink,
+            b"pair refused\n",
+            DaemonStatus::ImageRefused,
+        ),
+        Stop::Unbound(port) => {
+            let before = u32::from(port.saturating_sub(shared.service.ports.port));
+            let unbound = Unbound::datagrams(port, before);
+            speaker.reason = unbound_reason(shared.alloc, unbound);
+            speaker.doubt = Doubt::Port(unbound);
+            write_unbound(shared.alloc, port, &mut speaker.sink)
+        }
+        Stop::Unheard(_) => {
+            let port = streams.ports.port;
+            let address = streams.address.unwrap_or(Ipv4Addr::UNSPECIFIED);
+            let unbound = Unbound::connections(address, port, streams.ports.fronts);
+            speaker.reason = unbound_reason(shared.alloc, unbound);
+            speaker.doubt = Doubt::Port(unbound);
+            write_unbound(shared.alloc, port, &mut speaker.sink)
+        }
+        Stop::Fault(fault) => write_fault(fault, &mut speaker.sink),
+        Stop::Unkept => write_due(&mut speaker.sink, b"save fault\n", DaemonStatus::SaveFault),
+        Stop::Unannounced => DaemonStatus::WriteFault,
     }
 }
 
@@ -107,7 +183,7 @@ fn serve_aloud<
     net: &mut N,
     listeners: &mut L,
     left: &mut Left<Keeper<P, C>>,
-) -> DaemonStatus
+) -> Ended
     requires service { IsPossibleService shared.now.service }
     requires fronts { shared.now.service.places ≡ streams.now.ports.fronts }
     requires places { HasPlace shared.now.service.places (L.places listeners.old) }
@@ -117,44 +193,18 @@ fn serve_aloud<
     requires tables { left.old.tables ≡ [] }
     requires uncounted { left.old.lacked ≡ 0 }
     ensures { ServesAloud shared.now.service streams.now.ports filling.items
-        (daemon_outside (sink_facts K.Sink speaker.old.sink) (ports_at N.Net L.Listeners net.old listeners.old) left.old.tables left.old.lacked)
-        (daemon_outside (sink_facts K.Sink speaker.new.sink) (ports_at N.Net L.Listeners net.new listeners.new) left.new.tables left.new.lacked) result }
+        (daemon_outside (sink_facts K.Sink speaker.old.sink) (ports_at N.Net L.Listeners net.old listeners.old) left.old.tables left.old.lacked (keeping_facts P.state P.faults left.old.keeper))
+        (daemon_outside (sink_facts K.Sink speaker.new.sink) (ports_at N.Net L.Listeners net.new listeners.new) left.new.tables left.new.lacked (keeping_facts P.state P.faults left.new.keeper)) result.is_whole result.status }
 {
     match serve_locked(shared, filling, net, listeners, speaker, left) {
         Ok(totals) => {
-            let kept = left.keeper.end();
             let status = status_at_totals(stopping);
-            let status = print_totals(shared.alloc, totals, status, &mut speaker.sink);
-            tell_kept(
-                status,
-                kept,
-                left.keeper.saving.is_some(),
-                &mut speaker.sink,
-            )
+            Ended {
+                status: print_totals(shared.alloc, totals, status, &mut speaker.sink),
+                is_whole: true,
+            }
         }
-        Err(Stop::Refused) => write_due(
-            &mut speaker.sink,
-            b"pair refused\n",
-            DaemonStatus::ImageRefused,
-        ),
-        Err(Stop::Unbound(port)) => {
-            let before = u32::from(port.saturating_sub(shared.service.ports.port));
-            let unbound = Unbound::datagrams(port, before);
-            speaker.reason = unbound_reason(shared.alloc, unbound);
-            speaker.doubt = Doubt::Port(unbound);
-            write_unbound(shared.alloc, port, &mut speaker.sink)
-        }
-        Err(Stop::Unheard(_)) => {
-            let port = streams.ports.port;
-            let address = streams.address.unwrap_or(Ipv4Addr::UNSPECIFIED);
-            let unbound = Unbound::connections(address, port, streams.ports.fronts);
-            speaker.reason = unbound_reason(shared.alloc, unbound);
-            speaker.doubt = Doubt::Port(unbound);
-            write_unbound(shared.alloc, port, &mut speaker.sink)
-        }
-        Err(Stop::Fault(fault)) => write_fault(fault, &mut speaker.sink),
-        Err(Stop::Unkept) => write_due(&mut speaker.sink, b"save fault\n", DaemonStatus::SaveFault),
-        Err(Stop::Unannounced) => DaemonStatus::WriteFault,
+        Err(stop) => Ended::short(stopped_short(shared, streams, stop, speaker)),
     }
 }
 
@@ -176,7 +226,7 @@ fn stay_up<
     net: &mut N,
     listeners: &mut L,
     left: &mut Left<Keeper<P, C>>,
-) -> DaemonStatus
+) -> Ended
     requires options { IsPossible read.now.options }
     requires fronts { ArePossibleFronts read.now.ports read.now.streams.ports }
     requires filling { All IsWrite filling.items }
@@ -184,11 +234,11 @@ fn stay_up<
     requires tables { left.old.tables ≡ [] }
     requires uncounted { left.old.lacked ≡ 0 }
     ensures { ServesOrNot read.now.options read.now.ports read.now.streams start.base filling.items
-        (daemon_outside (sink_facts K.Sink speaker.old.sink) (ports_at N.Net L.Listeners net.old listeners.old) left.old.tables left.old.lacked)
-        (daemon_outside (sink_facts K.Sink speaker.new.sink) (ports_at N.Net L.Listeners net.new listeners.new) left.new.tables left.new.lacked) result }
+        (daemon_outside (sink_facts K.Sink speaker.old.sink) (ports_at N.Net L.Listeners net.old listeners.old) left.old.tables left.old.lacked (keeping_facts P.state P.faults left.old.keeper))
+        (daemon_outside (sink_facts K.Sink speaker.new.sink) (ports_at N.Net L.Listeners net.new listeners.new) left.new.tables left.new.lacked (keeping_facts P.state P.faults left.new.keeper)) result.is_whole result.status }
 {
     let Ok(board) = board_of(process, start, read, filling.as_slice()) else {
-        return DaemonStatus::NoMemory;
+        return Ended::short(DaemonStatus::NoMemory);
     };
     let DaemonOptions {
         options,
@@ -197,10 +247,10 @@ fn stay_up<
         ..
     } = read;
     let Ok(places) = places_of(process.alloc, streams) else {
-        return DaemonStatus::NoMemory;
+        return Ended::short(DaemonStatus::NoMemory);
     };
     let Ok(line) = ready_line(process.alloc, ports, &streams.ports) else {
-        return DaemonStatus::NoMemory;
+        return Ended::short(DaemonStatus::NoMemory);
     };
     listeners.set_places(places, streams.connections);
     speaker.line = line;
@@ -234,12 +284,78 @@ fn stay_up<
 // Whether there is memory for the partitions, as far as that is known.
 fn has_memory<F: Files>(alloc: Global, files: &F, options: &Options) -> bool
     requires { IsPossible options.now }
-    ensures { IsTrue result → HasMemory (files_facts F.file F.free F.faults files.now) options.now }
+    ensures { IsTrue result → HasMemory (files_facts F.file F.place F.is_free F.free F.faults files.now) options.now }
 {
     match files.free_memory(alloc) {
         Some(free) => start_bytes(options) <= free,
         None => true,
     }
+}
+
+// Fills the partitions by the file of this name, serves, and saves there what is left.
+fn keep_up<
+    W: Threads + Wait + Sync,
+    F: Files,
+    K: Sink + Drop,
+    C: Clock + Drop,
+    N: Net,
+    L: Listeners,
+    G: Gate,
+>(
+    process: &Process<W, G>,
+    start: Start,
+    read: DaemonOptions<'_>,
+    name: &str,
+    files: &F,
+    speaker: &mut Speaker<K>,
+    net: &mut N,
+    listeners: &mut L,
+    left: &mut Left<Keeper<F::Place, C>>,
+) -> DaemonStatus
+    requires options { IsPossible read.options }
+    requires fronts { ArePossibleFronts read.ports read.streams.ports }
+    requires marks { HaveMarks read.options read.streams.ports }
+    requires memory { HasMemory (files_facts F.file F.place F.is_free F.free F.faults files.now) read.options }
+    requires numbers { 0 < start.base }
+    requires unbound { N.binds net.old ≡ 0 }
+    requires tables { left.old.tables ≡ [] }
+    requires uncounted { left.old.lacked ≡ 0 }
+    ensures { LoadsAndSaves name.now (service_of read) start.base start.second (files_facts F.file F.place F.is_free F.free F.faults files.now)
+        (daemon_outside (sink_facts K.Sink speaker.old.sink) (ports_at N.Net L.Listeners net.old listeners.old) left.old.tables left.old.lacked (keeping_facts F.Place.state F.Place.faults left.old.keeper))
+        (daemon_outside (sink_facts K.Sink speaker.new.sink) (ports_at N.Net L.Listeners net.new listeners.new) left.new.tables left.new.lacked (keeping_facts F.Place.state F.Place.faults left.new.keeper)) result
+        ⊎ LoadsNothing name.now (files_facts F.file F.place F.is_free F.free F.faults files.now)
+        (daemon_outside (sink_facts K.Sink speaker.old.sink) (ports_at N.Net L.Listeners net.old listeners.old) left.old.tables left.old.lacked (keeping_facts F.Place.state F.Place.faults left.old.keeper))
+        (daemon_outside (sink_facts K.Sink speaker.new.sink) (ports_at N.Net L.Listeners net.new listeners.new) left.new.tables left.new.lacked (keeping_facts F.Place.state F.Place.faults left.new.keeper)) result }
+{
+    let begun = match begin_kept(
+        process.alloc,
+        start,
+        files,
+        name,
+        &read.options,
+        &mut speaker.sink,
+    ) {
+        Ok(begun) => begun,
+        Err(Unbegun { status, place }) => {
+            left.keeper.place = place;
+            note_saved(process.alloc, name, status, speaker);
+            return status;
+        }
+    };
+    left.keeper.saving = Some(begun.saving);
+    let mut read = read;
+    read.options = begun.options;
+    let ended = stay_up(
+        process,
+        begun.start,
+        &read,
+        begun.filling,
+        speaker,
+        net,
+        listeners,
+        left,
+    );
+    end_kept(ended, &mut left.keeper, &mut speaker.sink)
 }
 
 /// Fills the partitions from the image that the words name, and serves the ports that they give, each for as many datagrams as can be
@@ -267,11 +383,11 @@ pub fn daemon<
     requires net { N.binds net.old ≡ 0 }
     requires tables { left.old.tables ≡ [] }
     requires uncounted { left.old.lacked ≡ 0 }
-    ensures { KeepsUp (daemon_of process.now.host (map string_bytes words.now)) start.base (files_facts F.file F.free F.faults files.old) (files_facts F.file F.free F.faults files.new)
-        (daemon_outside (sink_facts K.Sink speaker.old.sink) (ports_at N.Net L.Listeners net.old listeners.old) left.old.tables left.old.lacked)
-        (daemon_outside (sink_facts K.Sink speaker.new.sink) (ports_at N.Net L.Listeners net.new listeners.new) left.new.tables left.new.lacked) result }
+    ensures { KeepsUp (daemon_of process.now.host (map string_bytes words.now)) start.base start.second (files_facts F.file F.place F.is_free F.free F.faults files.old) (files_facts F.file F.place F.is_free F.free F.faults files.new)
+        (daemon_outside (sink_facts K.Sink speaker.old.sink) (ports_at N.Net L.Listeners net.old listeners.old) left.old.tables left.old.lacked (keeping_facts F.Place.state F.Place.faults left.old.keeper))
+        (daemon_outside (sink_facts K.Sink speaker.new.sink) (ports_at N.Net L.Listeners net.new listeners.new) left.new.tables left.new.lacked (keeping_facts F.Place.state F.Place.faults left.new.keeper)) result }
 {
-    let mut read = match read_daemon(process.alloc, words, process.host) {
+    let read = match read_daemon(process.alloc, words, process.host) {
         Ok(read) => read,
         Err(WordsFault::Usage) => return DaemonStatus::Usage,
         Err(WordsFault::NoMemory) => return DaemonStatus::NoMemory,
@@ -281,37 +397,17 @@ pub fn daemon<
         return DaemonStatus::NoMemory;
     }
     if let Some(name) = read.save {
-        let begun = match begin_kept(
-            process,
-            start,
-            files,
-            name,
-            &read.options,
-            &mut speaker.sink,
-        ) {
-            Ok(begun) => begun,
-            Err(status) => {
-                note_saved(process.alloc, name, status, speaker);
-                return status;
-            }
-        };
-        left.keeper.saving = Some(begun.saving);
-        read.options = begun.options;
-        return stay_up(
-            process,
-            begun.start,
-            &read,
-            begun.filling,
-            speaker,
-            net,
-            listeners,
-            left,
+        return keep_up(
+            process, start, read, name, files, speaker, net, listeners, left,
         );
     }
     match filling_of(process.alloc, files, read.image, &mut speaker.sink) {
-        Ok(filling) => stay_up(
-            process, start, &read, filling, speaker, net, listeners, left,
-        ),
+        Ok(filling) => {
+            stay_up(
+                process, start, &read, filling, speaker, net, listeners, left,
+            )
+            .status
+        }
         Err(status) => {
             note_image(process.alloc, read.image, status, speaker);
             status

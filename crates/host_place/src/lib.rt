@@ -2,7 +2,7 @@
 //! `tests`.
 #![tactic(auto)]
 
-ghost use Rattle.std.specs.Prelude.{◌≤◌, None, OnErr};
+ghost use Rattle.std.specs.Prelude.{◌≡◌, ◌≤◌, None, IfOk, OnErr};
 ghost use Rattle.outside.specs.Faults.{Rose};
 
 mod system;
@@ -49,7 +49,9 @@ fn counted<T>(faults: &mut u64, answer: io::Result<T>) -> Result<T, Failed>
 
 impl<'a, R: Files<File = File>> HostPlace<'a, R> {
     /// The place of the file with this path.
-    pub fn new(alloc: Global, rt: &'a R, path: &str) -> Result<HostPlace<'a, R>, NoMemory> {
+    pub fn new(alloc: Global, rt: &'a R, path: &str) -> Result<HostPlace<'a, R>, NoMemory>
+        ensures { IfOk result (λ place. ⟦<HostPlace<'a, R> as Place>⟧.faults place ≡ 0) }
+    {
         let folder = folder_of(path);
         Ok(HostPlace {
             rt,
@@ -97,6 +99,8 @@ impl<'a, R: Files<File = File>> Place for HostPlace<'a, R> {
     type Opened = StdSource<File>;
 
     ghost state = { λ _. None };
+
+    ghost is_free = { λ _. None };
 
     ghost is_locked = { λ p. p.is_locked };
 

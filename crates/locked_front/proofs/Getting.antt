@@ -3,7 +3,6 @@ use Rattle.std.proofs.Common.{◌≡◌, ℕ, ◌+◌, ◌*◌, ◌≤◌, Bool,
 use Rattle.std.proofs.lemmas.Bool.{leb-true, ltb-false}
 use Rattle.std.proofs.lemmas.Option.{same_Some}
 use Rattle.partition_model.specs.declared.write.Answer.{Answer}
-use Rattle.partition_model.specs.declared.write.Answer.TheVariants.{Hit, Miss}
 use Rattle.partition_model.specs.Answer.{IsAnswer}
 use Rattle.partition_model.specs.History.{History, IsPrefix, stamp_of, writes_to_bucket}
 use Rattle.partition_model.specs.Run.{IsAnswerAt}

@@ -3,5 +3,5 @@ pub mod Telling
 pub mod Getting
 pub mod Finding
 pub mod Ending
-pub mod Marks
+pub mod MarkBytes
 pub mod Locking

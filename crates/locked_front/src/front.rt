@@ -205,7 +205,9 @@ impl<'a, J: ServerPlan, P: LendPartition<Reader = ReaderSeat, Note = Note> + Dro
 impl<'a, J: ServerPlan, P: LendPartition<Reader = ReaderSeat, Note = Note> + Drop, R: Wait> Changes
     for LockedFront<'a, J, P, R> {
     fn flush_key(&self, partition: u32, flush: Flush, key: &mut ItemBuf) {
-        make_mark(partition, flush, key);
+        // What it keeps says that a byte has room for the partition.
+        let _few = self.options.partitions;
+        make_mark(partition, flush.due, flush.asked, key);
     }
 
     fn change<D: Decide>(

@@ -1,11 +1,10 @@
 -- At a later second behind more writes no less is flushed, and what is over stays so.
-use Rattle.std.proofs.Common.{◌≡◌, ◌≤◌, ◌<◌, ◌+◌, ◌==◌, ◌||◌, ◌&&◌, ℕ, suc, cond, min, Bool, true, false, ◌⊎◌, inl, inr, List, [], ◌∷◌, ◌++◌, nat_lt, nat_le, refl, arith}
+use Rattle.std.proofs.Common.{◌≡◌, ◌≤◌, ◌==◌, ◌||◌, ◌&&◌, ℕ, suc, cond, false, ◌⊎◌, inl, inr, [], ◌∷◌, ◌++◌, nat_lt, nat_le, arith}
 use Rattle.std.proofs.lemmas.Bool.{ltb-true, ltb-false, le-ltb, lt-leb, leb-false, eqb-true, eqb-false, cond_both, and_cases, and_left, and_right, or_parts, or_from}
 use Rattle.std.specs.List.{AllByRecursion}
 use Rattle.mica_words.specs.declared.hashing.Hashing.{Hashing}
 use Rattle.partition_model.specs.declared.write.Write.{Write}
 use Rattle.partition_model.specs.History.{History}
-use Rattle.memcached_text.specs.declared.item.Item.{Item}
 use Rattle.fronts.specs.declared.flushes.Flushes.{Flushes}
 use Rattle.fronts.specs.Flushes.{is_flush, flush_in, flushes_then, flushed_at, with_write, no_flushes, flushes_from, flushes_in}
 use Rattle.memcached_decisions.specs.Gone.{IsAskedSince, GoneStaysGone}

@@ -193,7 +193,7 @@ law host words service base before after old new status waited left is no_ports 
     by (subst (λ given. KeepsUp given base before after old new status) is kept).0
   where
     fit : (f c : ℕ) → f < service.streams.ports.fronts → AsksFit (received_of c (left f).entries)
-    fit f c low = let said = spoken f c low in fit_asks (received_of c (left f).entries) said.0 said.1
+    fit f c low = fit_asks (received_of c (left f).entries) (spoken f c low)
 
     by : FillsAndServes service base before after old new status
         → OnPorts (λ ports ports'.

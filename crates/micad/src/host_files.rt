@@ -42,6 +42,8 @@ impl<'a, R: FileSystem<File = File>> Files for HostFiles<'a, R> {
 
     ghost place = { λ _ _. None };
 
+    ghost is_free = { λ _ _. None };
+
     ghost faults = { λ f. f.faults };
 
     ghost script = { λ _ _. None };

@@ -74,6 +74,7 @@ impl MemPlace {
     ) -> Result<Self, NoMemory>
         ensures state { IfOk result (λ place. state_in place
             ≡ record { past = []; now = settled (option_map (λ bytes. bytes.now) file.entry); first = 0; beside = []; kept = 0 }) }
+        ensures free { IfOk result (λ place. place.is_free ≡ is_free) }
         ensures faults { IfOk result (λ place. place.faults ≡ 0) }
     {
         Ok(MemPlace {
@@ -150,6 +151,8 @@ impl Place for MemPlace {
     type Opened = MemSource;
 
     ghost state = { λ p. Some (state_in p) };
+
+    ghost is_free = { λ p. Some p.is_free };
 
     ghost is_locked = { λ p. p.is_locked };
 

@@ -14,6 +14,9 @@ pub trait Place {
     /// What the names stand for and what is on the disk, where the place tells it.
     ghost state: { Self → Option FileState };
 
+    /// Whether nobody else has its lock, where the place tells it.
+    ghost is_free: { Self → Option Bool };
+
     /// Whether it has the lock.
     ghost is_locked: { Self → Bool };
 
@@ -23,6 +26,7 @@ pub trait Place {
     /// Takes the lock, which no other process has then, and says whether it got it.
     fn lock(&mut self) -> Result<bool, Failed>
         ensures locked { IfOk result (λ got. is_locked self.new ≡ got) }
+        ensures foretold { IfOk result (λ got. IfSome (is_free self.old) (λ free. got ≡ free)) }
         ensures same { state self.new ≡ state self.old }
         ensures cause { OnErr result (Rose (faults self.old) (faults self.new)) }
         ensures never_fall { faults self.old ≤ faults self.new };

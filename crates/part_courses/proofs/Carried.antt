@@ -37,7 +37,7 @@ use Rattle.memcached_page.specs.Course.{carried, went, decided, becoming, after,
 use Rattle.part_courses.specs.Courses.{is_dead}
 use Rattle.part_courses.proofs.Values.{put_is, del_is}
 use Rattle.part_courses.proofs.Refusals.{has_room}
-use Rattle.part_courses.proofs.Written.{written, unwritten, stays_so, becomes_so, goes_so, refused_line, found_none, there_alike, never_flushes, no_feed_flushes, own_key, other_key, dead_then}
+use Rattle.part_courses.proofs.Written.{written, unwritten, stays_so, becomes_so, goes_so, refused_line, found_none, there_alike, never_flushes, no_mark_flushes, own_key, other_key, dead_then}
 use Rattle.part_courses.proofs.Shelves.{IsStored, value_same, found_stored, found_fit, Stands, moment_same}
 use Rattle.part_courses.proofs.Steps.{Begun, One, below_next, stands_next, same_flushes}
 
@@ -199,7 +199,7 @@ module _ {options : Options} {base : ℕ} {h : History} {shelf : Shelf} (g : Beg
         others = others;
         stored = subst (λ o. IfSome o (IsStored key)) (sym value) tt;
         free = let most = g.stands.free in omega (arith, most, free);
-        flushes = flushes ∙ g.stands.flushes ∙ same_flushes g (write_of Del key []) (ap (λ mark. is_in_first options.hashing options.buckets (write_of Del key []) && true && (mark && has_marks options.hashing)) spelled ∙ no_feed_flushes (is_in_first options.hashing options.buckets (write_of Del key [])) true);
+        flushes = flushes ∙ g.stands.flushes ∙ same_flushes g (write_of Del key []) (ap (λ mark. is_in_first options.hashing options.buckets (write_of Del key []) && true && (mark && has_marks options.hashing)) spelled ∙ no_mark_flushes (is_in_first options.hashing options.buckets (write_of Del key [])) true);
       }))
         where
           value : answer_of options (h ++ write_of Del key [] ∷ []) key ≡ None

@@ -20,7 +20,7 @@ use Rattle.memcached_decisions.specs.Numbered.{numbered, moment_at}
 use Rattle.memcached_page.specs.Shelf.{Shelf, at, there, with_item}
 use Rattle.memcached_page.specs.Course.{flushed, went}
 use Rattle.part_courses.proofs.Values.{del_is, flushed_none}
-use Rattle.part_courses.proofs.Written.{there_alike, no_feed_flushes, own_key, other_key, feed_of, first_of, deletes_of, numbered_flush, over_parts}
+use Rattle.part_courses.proofs.Written.{there_alike, no_mark_flushes, own_key, other_key, mark_of, first_of, deletes_of, numbered_flush, over_parts}
 use Rattle.part_courses.proofs.Shelves.{IsStored, in_numbers, Stands, moment_same}
 use Rattle.part_courses.proofs.Steps.{Begun, One, stands_next, same_flushes}
 
@@ -41,7 +41,7 @@ module _ {options : Options} {base : ℕ} {h : History} {shelf : Shelf} (g : Beg
       least = let most = g.stands.free in omega (arith, most)
 
       mark : is_mark step.write.key ≡ true
-      mark = first_of (is_mark step.write.key) (has_marks options.hashing) (feed_of (is_in_first options.hashing options.buckets step.write) (is_delete step.write.op) (marks options.hashing step.write.key) is_it)
+      mark = first_of (is_mark step.write.key) (has_marks options.hashing) (mark_of (is_in_first options.hashing options.buckets step.write) (is_delete step.write.op) (marks options.hashing step.write.key) is_it)
 
       none_stored : (o : Option (List ℕ)) → IfSome o (IsStored step.write.key) → o ≡ None
       none_stored None is = refl
@@ -107,7 +107,7 @@ module _ {options : Options} {base : ℕ} {h : History} {shelf : Shelf} (g : Beg
       gone = subst (λ w. answer_of options (h ++ w ∷ []) key ≡ None) (sym deletes) (del_is options g.is_store h key)
 
       off_flush : is_flush options.hashing options.buckets step.write ≡ false
-      off_flush = ap (λ mark. is_in_first options.hashing options.buckets step.write && is_delete step.write.op && (mark && has_marks options.hashing)) kept_so.spelled ∙ no_feed_flushes (is_in_first options.hashing options.buckets step.write) (is_delete step.write.op)
+      off_flush = ap (λ mark. is_in_first options.hashing options.buckets step.write && is_delete step.write.op && (mark && has_marks options.hashing)) kept_so.spelled ∙ no_mark_flushes (is_in_first options.hashing options.buckets step.write) (is_delete step.write.op)
 
       by : (on : Bool) → is_accepted step.outcome ≡ on → One options base shelf (h ++ cons_option (cond on (Some step.write) None) []) (cond on (went look.when.second key ∷ []) [])
       by false off = record { steps = tt; stands_then = subst (λ z. Stands options base z shelf) (sym (append-nil h)) g.stands }

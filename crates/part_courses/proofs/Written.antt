@@ -87,14 +87,14 @@ pub there_alike : (second one other : ℕ) (shelf : Shelf) (o : Option Item) →
 there_alike second one other shelf None = refl
 there_alike second one other shelf (Some item) = refl
 
-pub never_flushes : (first feed : Bool) → (first && false && feed) ≡ false
-never_flushes true feed = refl
-never_flushes false feed = refl
+pub never_flushes : (first mark : Bool) → (first && false && mark) ≡ false
+never_flushes true mark = refl
+never_flushes false mark = refl
 
-pub no_feed_flushes : (first delete : Bool) → (first && delete && false) ≡ false
-no_feed_flushes true true = refl
-no_feed_flushes true false = refl
-no_feed_flushes false delete = refl
+pub no_mark_flushes : (first delete : Bool) → (first && delete && false) ≡ false
+no_mark_flushes true true = refl
+no_mark_flushes true false = refl
+no_mark_flushes false delete = refl
 
 pub own_key : (key : List ℕ) (item old : Option Item) → cond (bytes_eq key key) item old ≡ item
 own_key key item old = ap (λ b. cond b item old) ((bytes_eq-Decides key key).1 refl)
@@ -106,21 +106,21 @@ pub dead_then : (value : Option (List ℕ)) (found : Option Item) → found ≡ 
 dead_then None found none some = absurd (some refl)
 dead_then (Some stored) found none some = ap (λ o. not (is_some o)) none
 
--- a flush deletes a key that begins with a line feed
-pub feed_of : (first delete feed : Bool) → (first && delete && feed) ≡ true → feed ≡ true
-feed_of true true feed is = is
-feed_of true false feed is = absurd (cc)
-feed_of false delete feed is = absurd (cc)
+-- a flush deletes a mark
+pub mark_of : (first delete mark : Bool) → (first && delete && mark) ≡ true → mark ≡ true
+mark_of true true mark is = is
+mark_of true false mark is = absurd (cc)
+mark_of false delete mark is = absurd (cc)
 
 pub first_of : (first second : Bool) → (first && second) ≡ true → first ≡ true
 first_of true second is = refl
 first_of false second is = absurd (cc)
 
-pub deletes_of : (first : Bool) (op : Op) (feed : Bool) → (first && is_delete op && feed) ≡ true → op ≡ Del
-deletes_of first Del feed is = refl
-deletes_of first Put feed is = absurd (true≢false (sym is ∙ never_flushes first feed))
-deletes_of first Add feed is = absurd (true≢false (sym is ∙ never_flushes first feed))
-deletes_of first TouchOp feed is = absurd (true≢false (sym is ∙ never_flushes first feed))
+pub deletes_of : (first : Bool) (op : Op) (mark : Bool) → (first && is_delete op && mark) ≡ true → op ≡ Del
+deletes_of first Del mark is = refl
+deletes_of first Put mark is = absurd (true≢false (sym is ∙ never_flushes first mark))
+deletes_of first Add mark is = absurd (true≢false (sym is ∙ never_flushes first mark))
+deletes_of first TouchOp mark is = absurd (true≢false (sym is ∙ never_flushes first mark))
 
 -- the flushes of one write more, in numbers
 pub numbered_flush : (base n : ℕ) (flush : Flush) (flushes : Flushes) → in_numbers base (flushes_then (suc n) flush flushes) ≡ flushes_then (numbered base (suc n)) flush (in_numbers base flushes)

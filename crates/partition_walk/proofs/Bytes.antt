@@ -69,10 +69,10 @@ module _ (o : OwnerState) (s : Kept o) (b entry : ℕ) (key : List ℕ) (cell : 
   value_len = ap header_value_len header ∙ header_value_len-header_of cell.room (length key) (length cell.value) fits.5 (omega (arith, fits.0))
 
   key_words : (i : ℕ) → i < words_for (length key) → item_in o (at + 2 + i) ≡ slice_index (packed key) i
-  key_words i l = ap (item_in o) (omega arith) ∙ (sp.item (2 + i) (omega arith) ∙ packed_key_word cell.room key cell.value i l)
+  key_words i l = ap (item_in o) (omega arith) ∙ (sp.item (2 + i) (omega arith) ∙ packed_key_word o.shape.hashing cell.room key cell.value i l)
 
   value_words : (i : ℕ) → i < words_for (length cell.value) → item_in o (at + 2 + words_for (length key) + i) ≡ slice_index (packed cell.value) i
-  value_words i l = ap (item_in o) (omega arith) ∙ (sp.item (2 + words_for (length key) + i) (omega arith) ∙ value_word cell.room key cell.value i l)
+  value_words i l = ap (item_in o) (omega arith) ∙ (sp.item (2 + words_for (length key) + i) (omega arith) ∙ value_word o.shape.hashing cell.room key cell.value i l)
 
   pub key_is : key_at o at ≡ key
   key_is = ap (bytes_in o (at + 2)) key_len ∙ bytes_there o (at + 2) key fits.1 key_words

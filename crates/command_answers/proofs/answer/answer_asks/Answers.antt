@@ -15,7 +15,6 @@ use Rattle.command_answers.specs.Going.{AnswersAt, AnswersFirst, RepliesFirst}
 use Rattle.command_answers.proofs.AskLaws.{behind_few, if_ok, is_less, left_of, many_by, no_text, none_left, some_left, whole_part}
 use Rattle.command_answers.proofs.Asking.{none_yet, one_first, more_first, text_more, writes_more}
 use Rattle.command_answers.proofs.Counting.{counted_more}
-use Rattle.command_answers.proofs.answer.answer_asks.Given as given
 use Rattle.command_answers.proofs.answer.answer_asks.Goals as goal
 
 -- what a last answer appended
@@ -81,8 +80,8 @@ loop-count-preserved g c =
       left = omega (arith, left, inv.left);
       given = omega (arith, one.3, inv.given, writes_more inv.answers (one.0 ∷ []));
       counted =
-          one.4 ∙ ap (tally_after c.args.base (g.F.Front.options c.args.front.now).hashing c.args.partitions asked one.0) inv.counted
-          ∙ sym (counted_more c.args.base (g.F.Front.options c.args.front.now).hashing c.args.partitions asks c.next_asked.new.self inv.answers asked one.0 [] c.args.buffers.now.tally all);
+          one.4 ∙ (λ i. tally_after c.args.base (inv.options i).hashing c.args.partitions asked one.0 (inv.counted i))
+          ∙ sym (counted_more c.args.base (F.options c.args.front.now).hashing c.args.partitions asks c.next_asked.new.self inv.answers asked one.0 [] c.args.buffers.now.tally all);
       options = c.answer_ask.ensures.options ∙ inv.options;
       number = c.answer_ask.ensures.number ∙ inv.number;
       stands = c.answer_ask.ensures.stands ∙ inv.stands;
@@ -103,8 +102,8 @@ returns-in_default-answer_ask-clause-answered g c =
       more_first (asked ∷ c.next_asked.new.self) (one.0 ∷ []) inv.first all (omega arith) (one_first c.next_asked.new.self one.0 at),
       tt,
       omega (arith, one.3, inv.given, writes_more inv.answers (one.0 ∷ [])),
-      one.4 ∙ ap (tally_after c.args.base (g.F.Front.options c.args.front.now).hashing c.args.partitions asked one.0) inv.counted
-          ∙ sym (counted_more c.args.base (g.F.Front.options c.args.front.now).hashing c.args.partitions asks c.next_asked.new.self inv.answers asked one.0 [] c.args.buffers.now.tally all),
+      one.4 ∙ (λ i. tally_after c.args.base (inv.options i).hashing c.args.partitions asked one.0 (inv.counted i))
+          ∙ sym (counted_more c.args.base (F.options c.args.front.now).hashing c.args.partitions asks c.next_asked.new.self inv.answers asked one.0 [] c.args.buffers.now.tally all),
       (let many = inv.many in omega (arith, less, many, grown)),
     )
 
@@ -148,7 +147,7 @@ returns-then-is_empty-clause-answered g c =
         stops = inl none;
       }) r.4,
       omega (arith, r.5, inv.given, writes_more inv.answers two),
-      r.6 ∙ ap (λ t. tally_after_all c.args.base (g.F.Front.options c.args.front.now).hashing c.args.partitions [] r.1 (tally_after c.args.base (g.F.Front.options c.args.front.now).hashing c.args.partitions asked r.0 t)) inv.counted
-          ∙ sym (counted_more c.args.base (g.F.Front.options c.args.front.now).hashing c.args.partitions asks [] inv.answers asked r.0 r.1 c.args.buffers.now.tally all),
+      r.6 ∙ (λ i. tally_after_all c.args.base (inv.options i).hashing c.args.partitions [] r.1 (tally_after c.args.base (inv.options i).hashing c.args.partitions asked r.0 (inv.counted i)))
+          ∙ sym (counted_more c.args.base (F.options c.args.front.now).hashing c.args.partitions asks [] inv.answers asked r.0 r.1 c.args.buffers.now.tally all),
       (let at = inv.many in let one = r.3 in omega (arith, less, at, grown, one, few)),
     )

@@ -8,7 +8,7 @@ use Rattle.memcached_requests.specs.Requests.{asks_in}
 use Rattle.command_answers.specs.declared.answer.Progress.{Progress}
 use Rattle.command_answers.specs.AskAnswers.{AnswersAsks, asks_by}
 use Rattle.command_answers.specs.FlushAnswers.{FlushesFrom, flush_at}
-use Rattle.command_answers.specs.Exchange.{IsOpenAt, flush_due, flush_text, is_flush_all, style_of}
+use Rattle.command_answers.specs.Exchange.{IsOpenAt, flush_text, is_flush_all, style_of}
 use Rattle.command_answers.specs.Going.{AnswersFirst, RepliesFirst, Replies}
 use Rattle.command_answers.proofs.AskLaws.{if_ok, few_by, none_left, some_left, few_answers}
 use Rattle.memcached_stats.specs.Stats.{stats_text}
@@ -41,7 +41,7 @@ returns-then-is_flush_all-clause-answered g c =
           (all.1 ∙ ap (λ (s : Style). c.args.out.now.items ++ flush_text s true r.0) c.style_of-style.ensures)) r.4,
       r.5,
       c.count.ensures ∙ ap (λ k. counted k c.args.buffers.now.tally) c.counter_by.ensures
-          ∙ sym (counted_flush c.args.numbering.base c.args.numbering.partitions next done r.0 c.args.buffers.now.tally flushes),
+          ∙ sym (counted_flush c.args.numbering.base options.hashing c.args.numbering.partitions next done r.0 c.args.buffers.now.tally flushes),
       omega (arith, r.3),
     )
 
@@ -63,7 +63,7 @@ returns-then-is_stats-clause-answered g c =
           c.answer_stats.ensures.told,
       omega arith,
       c.answer_stats.ensures.tally ∙ c.count.ensures ∙ ap (λ k. counted k c.args.buffers.now.tally) c.counter_by.ensures
-          ∙ sym (counted_plain c.args.numbering.base (g.F.Front.options c.args.front.now).hashing c.args.numbering.partitions next c.args.done c.args.buffers.now.tally),
+          ∙ sym (counted_plain c.args.numbering.base options.hashing c.args.numbering.partitions next c.args.done c.args.buffers.now.tally),
       omega arith,
     )
 
@@ -82,7 +82,7 @@ returns-then-has_none-clause-answered g c =
           text,
       omega arith,
       c.count.ensures ∙ ap (λ k. counted k c.args.buffers.now.tally) c.counter_by.ensures
-          ∙ sym (counted_plain c.args.numbering.base (g.F.Front.options c.args.front.now).hashing c.args.numbering.partitions next c.args.done c.args.buffers.now.tally),
+          ∙ sym (counted_plain c.args.numbering.base options.hashing c.args.numbering.partitions next c.args.done c.args.buffers.now.tally),
       omega arith,
     )
 
@@ -98,7 +98,7 @@ returns-in_default-clause-answered g c =
       tt,
       omega arith,
       c.count.ensures ∙ ap (λ k. counted k c.args.buffers.now.tally) c.counter_by.ensures
-          ∙ sym (counted_plain c.args.numbering.base (g.F.Front.options c.args.front.now).hashing c.args.numbering.partitions c.args.next c.args.done c.args.buffers.now.tally),
+          ∙ sym (counted_plain c.args.numbering.base options.hashing c.args.numbering.partitions c.args.next c.args.done c.args.buffers.now.tally),
       omega arith,
     )
 
@@ -165,9 +165,9 @@ returns-in-Ok-answer_asks-clause-answered g c =
       subst (λ (w : Bool). Replies options base next done c.args.limits r.0 before after (progress_of (done + count) w)) (sym c.is_empty.ensures)
           (asks_reply options F.is_alone base c.args.second next done c.requires.open old new keyed some r.0 c.args.limits before after count left replies),
       r.3,
-      r.4 ∙ (λ i. tally_after_all c.args.numbering.base (g.F.Front.options c.args.front.now).hashing c.args.numbering.partitions (asks_are i) r.0
+      r.4 ∙ (λ i. tally_after_all c.args.numbering.base options.hashing c.args.numbering.partitions (asks_are i) r.0
           ((c.count.ensures ∙ ap (λ k. counted k c.args.buffers.now.tally) c.counter_by.ensures) i))
-          ∙ sym (counted_keyed c.args.numbering.base c.args.numbering.partitions c.args.next c.args.done r.0 c.args.buffers.now.tally keyed),
+          ∙ sym (counted_keyed c.args.numbering.base options.hashing c.args.numbering.partitions c.args.next c.args.done r.0 c.args.buffers.now.tally keyed),
       omega (arith, r.5),
     )
 
@@ -187,8 +187,8 @@ returns-in-Err-clause-answered g c =
       asks_go options F.is_alone c.args.numbering.base c.args.second c.args.next c.args.done c.requires.open old new keyed some r.0 first,
       tt,
       r.3,
-      r.4 ∙ (λ i. tally_after_all c.args.numbering.base (g.F.Front.options c.args.front.now).hashing c.args.numbering.partitions (asks_are i) r.0
+      r.4 ∙ (λ i. tally_after_all c.args.numbering.base options.hashing c.args.numbering.partitions (asks_are i) r.0
           ((c.count.ensures ∙ ap (λ k. counted k c.args.buffers.now.tally) c.counter_by.ensures) i))
-          ∙ sym (counted_keyed c.args.numbering.base c.args.numbering.partitions c.args.next c.args.done r.0 c.args.buffers.now.tally keyed),
+          ∙ sym (counted_keyed c.args.numbering.base options.hashing c.args.numbering.partitions c.args.next c.args.done r.0 c.args.buffers.now.tally keyed),
       omega (arith, r.5),
     )

@@ -2,6 +2,7 @@ use Rattle.std.proofs.Common.{◌≡◌, ◌++◌, ℕ, List, length, sym, ap, �
 use Rattle.std.specs.Prelude.{option_copied}
 use Rattle.std.proofs.lemmas.Result.{on_ok_weaker}
 use Rattle.mica_words.specs.Hash.{partition_of}
+use Rattle.partition_model.specs.declared.options.Options.{Options}
 use Rattle.memcached_commands.specs.declared.asks.Asked.{Asked}
 use Rattle.memcached_commands.specs.Changes.{looks}
 use Rattle.memcached_decisions.specs.Numbered.{Order, becoming_by, says_by}
@@ -38,6 +39,7 @@ returns-clause-answered g c =
     let says : c.says-says.result ≡ said_of c.args.base asked by.answered =
     c.says-says.ensures.said ∙ ap (λ (o : Order). says_by o changed.when (option_copied c.value_found-stored.result) changed.outcome) c.new-order.ensures
     ∙ ap (λ v. says_by (order_of c.args.base asked) changed.when v changed.outcome) c.value_found-stored.ensures ∙ by.said in
+    let hashing : c.hashing-hashing.result ≡ options.hashing = c.hashing-hashing.ensures ∙ ap (λ (o : Options). o.hashing) c.change-changed.ensures.options in
     let first : Numbers = counted (counter_of asked.ask (said_of c.args.base asked by.answered)) c.args.buffers.now.tally in
     let asks : c.count.new.self ≡ first = c.count.ensures ∙ ap (λ k. counted k c.args.buffers.now.tally) (c.counter_of.ensures ∙ ap (counter_of asked.ask) says) in
     let beside : c.counter_beside.result ≡ beside_of c.args.base asked by.answered =
@@ -48,9 +50,9 @@ returns-clause-answered g c =
       on_ok_weaker c.put_said.result (λ text.
           text ∙ (λ i. c.args.out.now.items ++ said_text c.args.style.now c.args.is_last (c.bytes-key.ensures i) (says i))) c.put_said.ensures.ok,
       (let left = c.change-changed.ensures.left in omega (arith, left, by.count)),
-      c.note_write.ensures ∙ (λ i. noted_if (g.F.Front.options c.args.front.now).hashing c.args.partitions (c.bytes-key.ensures i) changed.when changed.outcome changed.stamp
+      c.note_write.ensures ∙ (λ i. noted_if (hashing i) c.args.partitions (c.bytes-key.ensures i) changed.when changed.outcome changed.stamp
           (tally i))
-          ∙ by.noted (g.F.Front.options c.args.front.now).hashing c.args.partitions (counted (beside_of c.args.base asked by.answered) first),
+          ∙ by.noted options.hashing c.args.partitions (counted (beside_of c.args.base asked by.answered) first),
       c.was_refused.ensures ∙ sym by.refused,
     )
 

@@ -38,7 +38,7 @@ returns-in_default-said-clause-answered g c =
       sym (ap length behind),
       tt,
       omega (arith, one.3, gone.2, writes_more (one.0 ∷ []) (gone.0 ∷ [])),
-      gone.3 ∙ ap (noted_by (g.F.Front.options c.args.front.now).hashing c.args.partitions gone.0) one.4,
+      gone.3 ∙ (λ i. noted_by (c.answer_ask-said.ensures.options i).hashing c.args.partitions gone.0 (one.4 i)),
     )
 
 pub returns-clause-answered : goal.returns-clause-answered
@@ -57,5 +57,5 @@ returns-clause-answered g c =
       sym (ap length behind),
       (omega arith, one.2),
       omega (arith, one.3, gone.2, writes_more (one.0 ∷ []) (gone.0 ∷ [])),
-      gone.3 ∙ ap (noted_by (g.F.Front.options c.args.front.now).hashing c.args.partitions gone.0) one.4,
+      gone.3 ∙ (λ i. noted_by (c.answer_ask-said.ensures.options i).hashing c.args.partitions gone.0 (one.4 i)),
     )

@@ -1,5 +1,6 @@
-use Rattle.std.proofs.Common.{ℕ, List, ◌∙◌, subst, arith}
+use Rattle.std.proofs.Common.{◌≡◌, ℕ, List, ap, ◌∙◌, subst, arith}
 use Rattle.mica_words.specs.Hash.{partition_of}
+use Rattle.partition_model.specs.declared.options.Options.{Options}
 use Rattle.memcached_commands.specs.declared.asks.Asked.{Asked}
 use Rattle.memcached_commands.specs.Changes.{looks}
 use Rattle.memcached_decisions.specs.Numbered.{Order, becoming_by}
@@ -28,11 +29,12 @@ returns-clause-answered g c =
     (subst (λ (k : List ℕ). ComesTo options F.is_alone second k (looks order.ask) (becoming_by order) (old (partition_of options.hashing k options.partitions)) changed buffer
     (new (partition_of options.hashing k options.partitions))) c.bytes-key.ensures c.change-gone.ensures.changed) in
     let others = subst (λ (k : List ℕ). ChangesOnly (partition_of options.hashing k options.partitions) old new) c.bytes-key.ensures c.change-gone.ensures.others in
+    let hashing : c.hashing-hashing.result ≡ options.hashing = c.hashing-hashing.ensures ∙ ap (λ (o : Options). o.hashing) c.change-gone.ensures.options in
     let by : IsAnsweredBy options F.is_alone c.args.base second asked old new changed buffer =
     answered_by options F.is_alone c.args.base second asked old new changed buffer comes others in (
       by.answered,
       by.at,
       (let left = c.change-gone.ensures.left in omega (arith, left, by.count)),
-      c.note_write.ensures ∙ (λ i. noted_if (g.F.Front.options c.args.front.now).hashing c.args.partitions (c.bytes-key.ensures i) changed.when changed.outcome changed.stamp c.args.buffers.now.tally)
-          ∙ by.noted (g.F.Front.options c.args.front.now).hashing c.args.partitions c.args.buffers.now.tally,
+      c.note_write.ensures ∙ (λ i. noted_if (hashing i) c.args.partitions (c.bytes-key.ensures i) changed.when changed.outcome changed.stamp c.args.buffers.now.tally)
+          ∙ by.noted options.hashing c.args.partitions c.args.buffers.now.tally,
     )

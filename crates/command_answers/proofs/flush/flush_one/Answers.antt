@@ -1,5 +1,6 @@
-use Rattle.std.proofs.Common.{◌∙◌, ap}
+use Rattle.std.proofs.Common.{◌∙◌, ◌&&◌, ap}
 use Rattle.mica_words.specs.Hash.{partition_of, bucket_of}
+use Rattle.mica_words.specs.Mark.{is_mark}
 use Rattle.fronts.specs.Flushes.{flush_in}
 use Rattle.command_answers.proofs.Flushing.{one_flush}
 use Rattle.command_answers.proofs.flush.flush_one.Goals as goal

@@ -1,5 +1,5 @@
 use Rattle.store_partition.proofs.Words.{rules, CanPlay, ChangesChain, FullBlock, FullSpare, Index, IsOwnerStep, IsTaken, LacksPlace}
-use Rattle.store_partition.proofs.Words.{MayLack, OwnerState, Stored, Write, [], ap, arith, entries_of, entry_of, hash_tag, item_events}
+use Rattle.store_partition.proofs.Words.{MayLack, Stored, Write, [], ap, arith, entries_of, entry_of, hash_tag, item_events}
 use Rattle.store_partition.proofs.Words.{item_size, marked_in_bucket, plays, refl, size_of, subst, subst₂, sym, tag_of_hash, true≢false, write_of, ℕ}
 use Rattle.store_partition.proofs.Words.{◌++◌, ◌+◌, ◌∙◌, ◌∷◌, ◌≡◌}
 use Rattle.store_partition.proofs.Held.{Held, main_at, full_block, full_spare, new_needs}

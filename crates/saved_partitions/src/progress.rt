@@ -1,5 +1,6 @@
-//! The saving of what a server leaves, partition by partition.
+//! What is saved so far of the partitions that a server leaves.
 ghost use Rattle.std.specs.Prelude.{◌≡◌, ◌<◌, ◌≤◌, ◌⊎◌, ◌∷◌, ◌++◌, [], ⊤, List, IfOk, OnOk, OnErr, IsErrOf};
+ghost use Rattle.std.specs.Bool.{MatchBool};
 ghost use Rattle.partition_model.specs.Options.{IsPossible};
 ghost use Rattle.partition_words.specs.declared.state.Phase.TheVariants.{Idle};
 ghost use Rattle.partition_words.specs.OwnerState.{options_in};
@@ -7,75 +8,27 @@ ghost use Rattle.partition_table.specs.declared.tables.KeptSeat.{KeptSeat};
 ghost use Rattle.partition_table.specs.Seats.{owner_state};
 ghost use Rattle.partition_table.specs.Tabled.{kept_seat_of};
 ghost use Rattle.locked_front.specs.Counts.{counts_after};
-ghost use Rattle.std.specs.Bool.{MatchBool};
-ghost use Rattle.named_files.specs.Files.{Told, IsSettled, KeepsFile, beside_of};
+ghost use Rattle.named_files.specs.Files.{KeepsFile, beside_of};
 ghost use Rattle.saved_items.specs.Spiller.{IsFresh, HasSaved, Finishes};
 ghost use Rattle.partition_walk.specs.Listed.{AreListed};
 ghost use Rattle.kept_items.specs.Left.{saved_mode};
-ghost use Rattle.daemon.specs.Saved.{saved_hashing};
-ghost use Rattle.daemon.specs.Saving.{saving_facts, UsesUp, FailsToUseUp, Shows, HasCome, SavesAtEnd, SavesNot, IsNewSaving, HasAll, IsAsBefore, IsSoFar, SavesSeat, blank_of, progress_facts};
+ghost use Rattle.saved_partitions.specs.Filling.{saved_hashing};
+ghost use Rattle.saved_partitions.specs.Saving.{IsNewProgress, IsAsBefore, IsSoFar, SavesSeat, blank_of, progress_facts};
 
+use crate::state::Progress;
+use crate::words::{saved_hashing, saved_mode};
 use kept_items::save_part;
 use locked_front::HistoryCounts;
 use memcached_decisions::moment_at;
-use mica_words::{Hashing as KeyHashing, MAX_KEY_LEN, MAX_STORED_LEN, SLOTS};
-use named_files::{Place, Stands, SteadyBeside, put_in_place, use_up};
-use outside::{Failed, NoMemory};
-use partition_model::{Mode, Options};
+use mica_words::{MAX_KEY_LEN, MAX_STORED_LEN, SLOTS};
+use named_files::{Place, Stands, SteadyBeside};
+use outside::NoMemory;
+use partition_model::Options;
 use partition_table::OwnerSeat;
 use partition_walk::{WordsWalk, list_items};
-use saved_items::{
-    Closing, Hashing, Head, SavedMode, SavedPair, SpillFault, Spiller, finish, put_head,
-};
+use saved_items::{Closing, Head, SavedPair, SpillFault, Spiller, finish, put_head};
 use std::alloc::Global;
-use std::marker::Brand;
 use std::mem;
-
-/// What is saved so far, and the room that saving takes, which is made before anything is served: so a stop can't fail for want of it.
-#[derive(Drop)]
-pub struct Progress {
-    alloc: Global,
-    /// Whether the file was loaded, so that it is used up.
-    is_loaded: bool,
-    spiller: Spiller,
-    /// Where the items of a partition lie.
-    offsets: Vec<u64>,
-    pair: SavedPair,
-    head: Head,
-    /// Where unique numbers begin.
-    base: u64,
-    /// Whether a partition was shown.
-    is_begun: bool,
-    /// What it came to.
-    came: Result<(), SpillFault>,
-    ghost fresh: { MatchBool is_begun ⊤ (IsFresh spiller) },
-}
-
-/// A file of saved items, and what is saved so far.
-#[derive(Drop)]
-pub struct Saving<P> {
-    place: P,
-    progress: Progress,
-}
-
-// How keys are hashed, as a file says it.
-fn saved_hashing(hashing: KeyHashing) -> Hashing
-    ensures { result ≡ saved_hashing hashing }
-{
-    match hashing {
-        KeyHashing::Fnv1a => Hashing::Papers,
-        KeyHashing::SipHash(k0, k1) => Hashing::Secret(k0, k1),
-    }
-}
-
-fn saved_mode(mode: Mode) -> SavedMode
-    ensures { result ≡ saved_mode mode }
-{
-    match mode {
-        Mode::Cache => SavedMode::Cache,
-        Mode::Store => SavedMode::Store,
-    }
-}
 
 // As many items as a partition may have: no more than its index has entries.
 fn most_items(options: &Options) -> usize
@@ -93,6 +46,35 @@ fn room_for_pair(alloc: Global) -> Result<SavedPair, NoMemory> {
 }
 
 impl Progress {
+    /// For partitions of these options, whose unique numbers begin at the base.
+    pub(crate) fn new(
+        alloc: Global,
+        is_loaded: bool,
+        options: &Options,
+        base: u64,
+    ) -> Result<Progress, NoMemory>
+        requires numbers { 0 < base }
+        requires options { IsPossible options.now }
+        ensures { IfOk result (IsNewProgress options.now base is_loaded) }
+    {
+        Ok(Progress {
+            alloc,
+            is_loaded,
+            spiller: Spiller::new(alloc)?,
+            offsets: Vec::with_capacity(alloc, most_items(options))?,
+            pair: room_for_pair(alloc)?,
+            head: Head {
+                second: 0,
+                hashing: saved_hashing(options.hashing),
+                mode: saved_mode(options.mode),
+                partitions: u64::from(options.partitions),
+            },
+            base,
+            is_begun: false,
+            came: Ok(()),
+        })
+    }
+
     // Begins the file beside, before its first partition.
     fn begin_file<J: Stands, P: Place + Drop>(&mut self, place: P, second: u64) -> P
         requires kept { KeepsFile J.file (P.state place) }
@@ -155,8 +137,8 @@ impl Progress {
         (beside.end(), seat)
     }
 
-    // Saves what is there of a partition, behind those before it.
-    fn save_items<J: Stands, P: Place + Drop>(
+    /// Saves what is there of a partition, behind those before it.
+    pub(crate) fn save_items<J: Stands, P: Place + Drop>(
         &mut self,
         place: P,
         seat: OwnerSeat,
@@ -188,8 +170,8 @@ impl Progress {
         self.save_listed::<J, P>(place, seat, counts)
     }
 
-    // Ends the file beside, behind its last partition.
-    fn finish_file<J: Stands, P: Place + Drop>(&mut self, place: P) -> P
+    /// Ends the file beside, behind its last partition.
+    pub(crate) fn finish_file<J: Stands, P: Place + Drop>(&mut self, place: P) -> P
         requires kept { KeepsFile J.file (P.state place) }
         ensures file { KeepsFile J.file (P.state result) }
         ensures never_fall { P.faults place ≤ P.faults result }
@@ -205,89 +187,3 @@ impl Progress {
     }
 }
 
-impl<P: Place + Drop> Saving<P> {
-    /// For partitions of these options, whose unique numbers begin at the base.
-    pub(crate) fn new(
-        alloc: Global,
-        place: P,
-        is_loaded: bool,
-        options: &Options,
-        base: u64,
-    ) -> Result<Saving<P>, NoMemory>
-        requires settled { Told (P.state place) IsSettled }
-        requires numbers { 0 < base }
-        requires options { IsPossible options.now }
-        ensures { IfOk result (λ saving. IsNewSaving options.now base is_loaded (P.state place) (P.faults place) (saving_facts P.state P.faults saving)) }
-    {
-        let progress = Progress {
-            alloc,
-            is_loaded,
-            spiller: Spiller::new(alloc)?,
-            offsets: Vec::with_capacity(alloc, most_items(options))?,
-            pair: room_for_pair(alloc)?,
-            head: Head {
-                second: 0,
-                hashing: saved_hashing(options.hashing),
-                mode: saved_mode(options.mode),
-                partitions: u64::from(options.partitions),
-            },
-            base,
-            is_begun: false,
-            came: Ok(()),
-        };
-        Ok(Saving { place, progress })
-    }
-
-    /// Takes the name from a file that was loaded, so that it is used once.
-    pub(crate) fn use_up(&mut self) -> Result<(), Failed>
-        requires settled { Told (P.state self.old.place) IsSettled }
-        ensures used { OnOk result (UsesUp (saving_facts P.state P.faults self.old) (saving_facts P.state P.faults self.new)) }
-        ensures failed { OnErr result (FailsToUseUp (saving_facts P.state P.faults self.old) (saving_facts P.state P.faults self.new)) }
-    {
-        if !self.progress.is_loaded {
-            return Ok(());
-        }
-        use_up(&mut self.place)?;
-        self.progress.is_loaded = false;
-        Ok(())
-    }
-
-    /// Saves what is there of a partition at this second, or at that of the first one. Its words stay as they are.
-    pub(crate) fn save(
-        self,
-        seat: OwnerSeat,
-        counts: &HistoryCounts,
-        second: u64,
-    ) -> (Saving<P>, OwnerSeat)
-        requires idle { (owner_state seat).phase ≡ Idle }
-        requires counts { counts.now ≡ counts_after (options_in (owner_state seat)) (owner_state seat).history }
-        ensures same { owner_state result.1 ≡ owner_state seat }
-        ensures shown { Shows (saving_facts P.state P.faults self) (kept_seat_of seat) (saving_facts P.state P.faults result.0) }
-    {
-        let Saving {
-            place,
-            mut progress,
-        } = self;
-        let (place, seat) = progress.save_items::<Brand, P>(place, seat, counts, second);
-        (Saving { place, progress }, seat)
-    }
-
-    /// Gives the file its name, once all partitions were saved. Says why it has it not.
-    pub(crate) fn end(self) -> (Saving<P>, Result<(), SpillFault>)
-        ensures saved { OnOk result.1 ((tables : List KeptSeat) → HasCome (saving_facts P.state P.faults self) tables → HasAll self.progress.head tables
-            → SavesAtEnd self.progress.base tables (P.state self.place) (P.state result.0.place)) }
-        ensures cause { IsErrOf result.1 SpillFault.Failed → (tables : List KeptSeat) → HasCome (saving_facts P.state P.faults self) tables → HasAll self.progress.head tables
-            → SavesNot self.progress.base tables (saving_facts P.state P.faults self).place (saving_facts P.state P.faults result.0).place }
-    {
-        let Saving {
-            place,
-            mut progress,
-        } = self;
-        let mut place = progress.finish_file::<Brand, P>(place);
-        if progress.came.is_ok() && put_in_place(&mut place).is_err() {
-            progress.came = Err(SpillFault::Failed);
-        }
-        let came = progress.came;
-        (Saving { place, progress }, came)
-    }
-}

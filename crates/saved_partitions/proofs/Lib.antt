@@ -1,0 +1,6 @@
+pub mod Once
+pub mod Loads
+pub mod Short
+pub mod Asked
+pub mod Filled
+pub mod Saved

@@ -1,0 +1,26 @@
+//! How a file says what the options of partitions say.
+ghost use Rattle.std.specs.Prelude.{◌≡◌};
+ghost use Rattle.kept_items.specs.Left.{saved_mode};
+ghost use Rattle.saved_partitions.specs.Filling.{saved_hashing};
+
+use mica_words::Hashing as KeyHashing;
+use partition_model::Mode;
+use saved_items::{Hashing, SavedMode};
+
+pub(crate) fn saved_hashing(hashing: KeyHashing) -> Hashing
+    ensures { result ≡ saved_hashing hashing }
+{
+    match hashing {
+        KeyHashing::Fnv1a => Hashing::Papers,
+        KeyHashing::SipHash(k0, k1) => Hashing::Secret(k0, k1),
+    }
+}
+
+pub(crate) fn saved_mode(mode: Mode) -> SavedMode
+    ensures { result ≡ saved_mode mode }
+{
+    match mode {
+        Mode::Cache => SavedMode::Cache,
+        Mode::Store => SavedMode::Store,
+    }
+}
