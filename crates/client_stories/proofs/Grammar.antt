@@ -61,7 +61,6 @@ use Rattle.memcached_text.specs.declared.command.Direction.{Direction}
 use Rattle.memcached_text.specs.declared.command.Direction.TheVariants as directions
 use Rattle.memcached_text.specs.declared.command.Wants.TheVariants.{Numbered}
 use Rattle.memcached_text.specs.declared.limits.TheConstants.{MAX_KEY_LEN}
-use Rattle.memcached_commands.specs.declared.asks.Asked.{Asked}
 use Rattle.memcached_frames.specs.declared.frame.FrameFault.TheVariants.{Unknown, Invalid, TooLarge}
 use Rattle.client_stories.specs.Stories.{AreBytes, AreFirst, BytesAskFit}
 

@@ -115,11 +115,11 @@ module _ (options : Options) (base : ℕ) where
     piece None (asks asked) a is in_p = absurd (true≢false (sym is.wanted))
     piece None (flushes flush) a is in_p = absurd (true≢false (sym is.wanted))
     piece (Some c) sweeps a is in_p = absurd (true≢false is.wanted)
-    piece (Some c) (asks asked) (wrote step) is in_p = absurd is.for.2
-    piece (Some c) (asks asked) (got key stamp value) is in_p = absurd is.for.2
-    piece (Some c) (asks asked) (changed step look) is in_p = changed_came asked step look c (ask_key asked step look is.for.2)
+    piece (Some c) (asks asked) (wrote step) is in_p = absurd is.for.1
+    piece (Some c) (asks asked) (got key stamp value) is in_p = absurd is.for.1
+    piece (Some c) (asks asked) (changed step look) is in_p = changed_came asked step look c (ask_key asked step look is.for.1)
     piece (Some c) (asks asked) (kept key stamp look) is in_p = record {
-      each = (record { own = refl; in_part = ap part (sym is.for.2.0); asked = refl; second = refl }, tt);
+      each = (record { own = refl; in_part = ap part (sym is.for.1.0); asked = refl; second = refl }, tt);
       asked = (_, refl, refl, (refl, refl, refl), refl);
     }
     piece (Some c) (flushes flush) (wrote step) is in_p = record {

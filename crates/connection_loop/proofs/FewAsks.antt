@@ -13,7 +13,6 @@ use Rattle.memcached_text.specs.declared.reply.Reply.TheVariants.{End}
 use Rattle.memcached_text.specs.declared.next.Next as lines
 use Rattle.memcached_text.specs.declared.next.Next.TheVariants as of_lines
 use Rattle.memcached_text.specs.Next as text
-use Rattle.memcached_commands.specs.declared.ask.Says.TheVariants.{Line}
 use Rattle.memcached_commands.specs.Asks as asked
 use Rattle.memcached_frames.specs.declared.header.TheConstants.{FRAME_LEN}
 use Rattle.memcached_frames.specs.declared.opcode.Verb.{Verb}
@@ -25,7 +24,7 @@ use Rattle.memcached_frames.specs.Header.{header_in}
 use Rattle.memcached_frames.specs.Frames.{frame_next}
 use Rattle.memcached_frames.specs.Laws.{TakesFrame}
 use Rattle.memcached_frames.proofs.FrameLaws.{keeps_frames}
-use Rattle.memcached_requests.specs.declared.request.Request.TheVariants.{Stats, Said}
+use Rattle.memcached_requests.specs.declared.request.Request.TheVariants.{Stats}
 use Rattle.memcached_requests.specs.declared.request.Next.{Next}
 use Rattle.memcached_requests.specs.Requests.{asks_in, asks_of, len_of}
 use Rattle.memcached_requests.specs.Lines.{of_line, request_of, request_by as line_request}

@@ -1,5 +1,6 @@
 //! What is done for a connection that was reported.
-ghost use Rattle.std.specs.Prelude.{◌≡◌, ◌≢◌, ◌<◌, length, None, IfOk, IfSome, MatchResult, vec_len};
+ghost use Rattle.std.specs.Prelude.{◌≡◌, ◌≢◌, ◌<◌, true, length, None, IfOk, IfSome, MatchResult, vec_len};
+ghost use Rattle.mica_words.specs.Mark.{has_marks};
 ghost use Rattle.connections.specs.Calls.{Leaves};
 ghost use Rattle.connection_loop.specs.Calls.{KeepsHand};
 ghost use Rattle.connection_loop.specs.Clients.{IsClient, at};
@@ -35,6 +36,7 @@ pub(crate) fn visit_on<F: CountsWrites, C: Connections>(
     requires client { IsClient client.old }
     requires open { IfSome (C.log connections.old) (IsOpen number client.old.asks) }
     requires partitions { hand.old.numbering.partitions ≡ (F.options hand.old.front).partitions }
+    requires marks { has_marks (F.options hand.old.front).hashing ≡ true }
     requires left { MayAnswer hand.old.numbering.partitions (F.left hand.old.front) }
     ensures again { IfOk result (λ after. after ≡ After.Again → IsPaid 1 client.new) }
     ensures room { vec_len desk.new.room ≡ ROOM_LEN }
@@ -71,6 +73,7 @@ pub(crate) fn visit_within<F: CountsWrites, C: Connections>(
     requires client { IsClient client.old }
     requires open { IfSome (C.log connections.old) (IsOpen number client.old.asks) }
     requires partitions { hand.old.numbering.partitions ≡ (F.options hand.old.front).partitions }
+    requires marks { has_marks (F.options hand.old.front).hashing ≡ true }
     requires left { MayAnswer hand.old.numbering.partitions (F.left hand.old.front) }
     requires counted { AreCounted clients.old }
     requires place { number < vec_len clients.old.held }

@@ -58,11 +58,11 @@ module _ (o : OwnerState) (d : IsStored o) where
 
   spells : Spells o 0 entry_of_a (97 ∷ []) cell_of_a
   spells =
-      let header = d.item 0 (omega arith) ∙ header_word Fnv1a 4 (97 ∷ []) (49 ∷ []) in record {
+      let header = d.item 0 (omega arith) ∙ header_word o.shape.hashing 4 (97 ∷ []) (49 ∷ []) in record {
         bucket = its_bucket o d.shape;
         has = subst (λ (z : State). Has z (97 ∷ []) cell_of_a (entry_offset entry_of_a)) (sym now) refl;
         offset = subst (λ (z : Shape). IsOffset z.mode z.words (entry_offset entry_of_a)) (sym d.shape) tt;
-        tag = tag_is;
+        tag = subst (λ (z : Shape). entry_tag entry_of_a ≡ tag_of z.hashing (97 ∷ [])) (sym d.shape) tag_is;
         item = d.item;
         in_room = subst (λ (z : ℕ). item_size (97 ∷ []) (49 ∷ []) ≤ header_room z) (sym header) (omega arith);
       }

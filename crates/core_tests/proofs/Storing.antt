@@ -1,5 +1,5 @@
 -- What the stored item and entry of `a` make of the words.
-use Rattle.std.proofs.Common.{◌≡◌, ℕ, suc, ◌+◌, ◌<◌, ◌⊎◌, inl, inr, [], ◌∷◌, get_or, refl, sym, ap, ◌∙◌, subst, arith}
+use Rattle.std.proofs.Common.{◌≡◌, ℕ, suc, ◌+◌, ◌<◌, ◌⊎◌, inl, inr, [], ◌∷◌, get_or, slice_index, refl, sym, ap, ◌∙◌, subst, arith}
 use Rattle.mica_words.specs.Entry.{entry_of}
 use Rattle.mica_words.specs.Spelling.{item_words}
 use Rattle.mica_words.proofs.ItemWords.{length-item_words}
@@ -81,7 +81,8 @@ module _ (o : OwnerState) (m : IsMarked o) (now : OwnerState) (is : now ≡ play
   spelt : SpellsItem now 0 (97 ∷ []) cell_of_a
   spelt i l =
       ap (λ (z : Shape). get_or now.words (item_at z (0 + i)) 0) shape
-      ∙ puts.put i (omega (arith, length-item_words o.shape.hashing 4 (97 ∷ []) (49 ∷ [])))
+      ∙ (puts.put i (omega (arith, length-item_words o.shape.hashing 4 (97 ∷ []) (49 ∷ [])))
+      ∙ ap (λ (z : Shape). slice_index (item_words z.hashing 4 (97 ∷ []) (49 ∷ [])) i) (sym shape))
 
   pub stored : Kept now → (then : OwnerState) → then ≡ after (PutsEntry 0 0 entry_of_a) now → Kept then → IsStored then
   stored s then is' kept =
@@ -96,6 +97,7 @@ module _ (o : OwnerState) (m : IsMarked o) (now : OwnerState) (is : now ≡ play
             ∙ empty (suc slot) l);
         item = λ i l.
             ap (λ (z : OwnerState). item_in z (0 + i)) is'
-            ∙ (item_puts_entry now s.wide 0 0 entry_of_a (0 + i) (omega arith) (omega arith) ∙ spelt i l);
+            ∙ (item_puts_entry now s.wide 0 0 entry_of_a (0 + i) (omega arith) (omega arith)
+            ∙ (spelt i l ∙ ap (λ (z : OwnerState). slice_index (item_words z.shape.hashing 4 (97 ∷ []) (49 ∷ [])) i) (sym is')));
         kept = kept;
       }

@@ -1,5 +1,5 @@
 -- What the words of a server that stays up give is possible.
-use Rattle.std.proofs.Common.{◌≡◌, ℕ, ◌<◌, ◌==◌, List, length, take, drop, Option, Some, None, Err, sym, ◌∙◌, Bool, true, false, ◌&&◌, is_none, is_some, option_map, unwrap_or, ap, refl, subst, if◌then◌else◌, arith}
+use Rattle.std.proofs.Common.{◌≡◌, ℕ, ◌<◌, ◌==◌, List, length, take, drop, Option, Some, None, Err, sym, ◌∙◌, Bool, true, false, is_none, is_some, option_map, unwrap_or, ap, refl, subst, if◌then◌else◌, arith}
 use Rattle.std.proofs.lemmas.Option.{none-some}
 use Rattle.mica_words.specs.declared.hashing.Hashing.{Hashing}
 use Rattle.mica_words.specs.declared.hashing.Hashing.TheVariants.{SipHash}
@@ -124,11 +124,6 @@ service_marks host given options is some =
     let h = both_told (hashing_by host (has_streams given) (given secret_name)) _ options e.2 in
     subst (λ (o : Options). has_marks o.hashing ≡ true) (same_options _ options h.2) (given_marks host (has_streams given) (given secret_name) h.0 h.1 some)
 
-some_fronts : (processors : ℕ) (given : Text → Option Text) (some : Bool) (streams : StreamOptions) → streams_by processors given some ≡ Some streams → 0 < streams.ports.fronts → some ≡ true
-some_fronts processors given true streams is more = refl
-some_fronts processors given false streams is more =
-    absurd (omega (arith, more, ap (λ (s : StreamOptions). s.ports.fronts) (unless_given (gives_streams given) no_streams streams is)))
-
 -- ports of datagrams that may be given
 lasting_valid : (given : Text → Option Text) (ports : PortOptions) → lasting_ports given ≡ Some ports → ArePossibleFronts ports no_streams.ports
 lasting_valid given ports is =
@@ -178,6 +173,11 @@ ports_valid processors given None ports streams p s =
     subst (λ (o : PortOptions). ArePossibleFronts o streams.ports) (unless_given (is_some (given fronts.name)) no_ports ports p) (streams_alone streams (some_streams_valid processors given streams s))
 ports_valid processors given (Some text) ports streams p s =
     subst (λ (o : StreamOptions). ArePossibleFronts ports o.ports) (unless_given (gives_streams given) no_streams streams s) (lasting_valid given ports p)
+
+some_fronts : (processors : ℕ) (given : Text → Option Text) (some : Bool) (streams : StreamOptions) → streams_by processors given some ≡ Some streams → 0 < streams.ports.fronts → some ≡ true
+some_fronts processors given true streams is more = refl
+some_fronts processors given false streams is more =
+    absurd (omega (arith, more, ap (λ (s : StreamOptions). s.ports.fronts) (unless_given (gives_streams given) no_streams streams is)))
 
 pub service_valid : (host : Host) (given : Text → Option Text) (service : Service) → daemon_given host given ≡ Some service
     → IsPossible service.options × ArePossibleFronts service.ports service.streams.ports × HaveMarks service.options service.streams.ports

@@ -1,5 +1,5 @@
 -- The secret of the hash of keys, as a word gives it.
-use Rattle.std.specs.Prelude.{ℕ, ◌+◌, ◌*◌, ◌-◌, ◌==◌, ◌&&◌, Bool, true, false, List, [], ◌∷◌, Option, Some, None, length, take, drop, nat_le, codes, if◌then◌else◌}
+use Rattle.std.specs.Prelude.{ℕ, ◌+◌, ◌*◌, ◌-◌, ◌==◌, ◌&&◌, Bool, true, false, [], ◌∷◌, Option, Some, None, length, take, drop, nat_le, codes, if◌then◌else◌}
 use Rattle.mica_words.specs.declared.hashing.Hashing.{Hashing}
 use Rattle.mica_words.specs.declared.hashing.Hashing.TheVariants.{Fnv1a, SipHash}
 use Rattle.daemon_words.specs.declared.host.Host.{Host}

@@ -1,5 +1,5 @@
 //! The secret of the hash of keys, as a word gives it.
-ghost use Rattle.std.specs.Prelude.{◌≡◌, ◌<◌, ◌≤◌, ◌^◌, length, string_bytes};
+ghost use Rattle.std.specs.Prelude.{◌≡◌, ◌≤◌, length};
 ghost use Rattle.daemon_words.specs.Secret.{digit_of, number_from, secret_of};
 
 use mica_words::Hashing;
@@ -33,7 +33,7 @@ fn number_of(digits: &[u8]) -> Option<u64>
 
 /// The hash of keys under the secret that a text writes.
 pub fn secret_of(text: &str) -> Option<Hashing>
-    ensures { result ≡ secret_of (string_bytes text) }
+    ensures { result ≡ secret_of text.now }
 {
     let digits = text.as_bytes();
     if digits.len() != SECRET_LEN {

@@ -78,6 +78,7 @@ fn fill_one<P: Partition>(
     write: &Write,
 ) -> bool
     requires valid { IsPossible options.now }
+    requires hashing { (P.owner part.old).shape.hashing ≡ options.now.hashing }
     requires write { IsWrite write.now }
     requires flushes { AreKept (P.owner part.old).shape.hashing (P.owner part.old).shape.buckets (P.owner part.old).history flushes.old }
     ensures own { partition_of options.now.hashing write.now.key options.now.partitions ≡ number

@@ -5,6 +5,7 @@ use Rattle.std.proofs.lemmas.Option.{slice_get_within, get_or_from_slice_get, sl
 use Rattle.std.proofs.lemmas.List.{length_push, take_more, map-set, length-map}
 use Rattle.std.proofs.lemmas.List.Elements.{filter_map-append, filter-append}
 use Rattle.list_laws.proofs.Places.{at_map, element_at, set_same, set_cases}
+use Rattle.mica_words.specs.Hash.{hash_of}
 use Rattle.mica_words.specs.Item.{KeyFits}
 use Rattle.mica_words.proofs.Hashes.{partition_of-below}
 use Rattle.partition_model.specs.declared.options.Options.{Options}
@@ -17,6 +18,7 @@ use Rattle.mica_trace.specs.declared.report.Line.{Line}
 use Rattle.mica_trace.specs.TraceGrammar.{HasFields, IsTraceLine}
 use Rattle.mica_trace.specs.Rounds.{partition_in, is_in_partition}
 use Rattle.mica_trace.specs.LawfulReport.{IsKindOf, Answers}
+use Rattle.partition_words.specs.declared.shape.Shape.{Shape}
 use Rattle.partition_words.specs.Shape.{shape_of}
 use Rattle.optimistic_get.specs.declared.getting.Got.{Got}
 use Rattle.optimistic_get.specs.declared.getting.Got.TheVariants.{Hit, Miss, Again}
@@ -210,6 +212,12 @@ module _ {X : Type 0} (f : X → ReaderState) where
       let same = read.seats in
       let long = length-map items f in
       slice_get_read items (length items) p old refl (omega arith) is
+
+  -- a key's hash by the options is that by the seat's shape
+  pub hashed_at : (options : Options) (gets : List TraceLine) (found : List Line) (olds : List ReaderState) (items : List X) (p : ℕ) (old : X) (key : List ℕ)
+      → AreSeatsOf options olds → HaveRead options gets found olds (map f items) → slice_get items p ≡ Some old → hash_of options.hashing key ≡ hash_of (f old).shape.hashing key
+  hashed_at options gets found olds items p old key seats read at =
+      ap (λ (z : Shape). hash_of z.hashing key) (sym (shape_kept options gets found olds (map f items) p (f old) seats read (at_map f items p old at)))
 
   pub seen_at : (olds : List ReaderState) (items : List X) (p : ℕ) (old new : X) → HaveSeenMore olds (map f items) → slice_get items p ≡ Some old
       → ((f new).shape ≡ (f old).shape) × IsPrefix (f old).seen (f new).seen → HaveSeenMore olds (map f (slice_set items p new))

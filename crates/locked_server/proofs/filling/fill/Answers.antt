@@ -1,4 +1,4 @@
-use Rattle.std.proofs.Common.{◌<◌, ◌+◌, ℕ, List, length, take, drop, refl, sym, subst, arith}
+use Rattle.std.proofs.Common.{◌<◌, ◌+◌, ℕ, List, length, take, drop, refl, sym, ap, subst, arith}
 use Rattle.std.proofs.lemmas.Option.{slice_get_read}
 use Rattle.std.proofs.lemmas.Nat.{pow_pos}
 use Rattle.partition_model.specs.declared.write.Write.{Write}
@@ -15,6 +15,9 @@ loop-write-init g c = record {
   filled = filled_none c.args.options.now c.args.number (g.P.Partition.owner c.args.part.now) c.requires.made;
   flushes = subst (λ (o : OwnerState). AreKept o.shape.hashing o.shape.buckets o.history c.none-flushes.result) (sym c.requires.made) c.none-flushes.ensures;
 }
+
+pub fill_one-requires-clause-hashing : goal.fill_one-requires-clause-hashing
+fill_one-requires-clause-hashing g c = ap (λ (o : OwnerState). o.shape.hashing) c.loop-write.invariant.filled.filled.state
 
 pub loop-write-preserved : goal.loop-write-preserved
 loop-write-preserved g c =

@@ -1,4 +1,5 @@
 use Rattle.std.proofs.Common.{◌≡◌, sym, ap, ◌∙◌, subst}
+use Rattle.mica_words.specs.declared.hashing.Hashing.{Hashing}
 use Rattle.mica_words.specs.Hash.{hash_of, hash_partition, partition_of}
 use Rattle.mica_words.proofs.Hashes.{partition_of_hash}
 use Rattle.partition_model.specs.declared.write.Write.{Write}
@@ -13,6 +14,9 @@ here : (g : given.Over) (c : After-partition_of g) → partition_of c.args.optio
 here g c =
     partition_of_hash c.args.options.now.hashing c.args.write.now.key c.args.options.now.partitions
     ∙ ap (λ h. hash_partition h c.args.options.now.partitions) (sym (c.key_hash-hash.ensures ∙ ap (hash_of c.args.options.now.hashing) c.bytes-key.ensures)) ∙ sym c.partition_of.ensures
+
+pub write_counted-requires-clause-hashed : goal.write_counted-requires-clause-hashed
+write_counted-requires-clause-hashed g c = c.key_hash-hash.ensures ∙ ap (λ (h : Hashing). hash_of h c.bytes-key.result.now) (sym c.requires.hashing)
 
 pub returns-then-partition_of-number-clause-own : goal.returns-then-partition_of-number-clause-own
 returns-then-partition_of-number-clause-own g c is =

@@ -8,10 +8,10 @@ use Rattle.mica_trace.specs.Rounds.{partition_in}
 use Rattle.partition_words.specs.declared.reader.ReaderState.{ReaderState}
 use Rattle.mica_replay.specs.LineNumbers.{lines_at}
 use Rattle.mica_replay.specs.ReaderGets.{HaveRead}
-use Rattle.mica_replay.proofs.ReaderSteps.{reads_none, number_within, IsGetOf, get_of, seat_at, seen_at, homes_at, read_at, reads_seen, read_goes}
+use Rattle.mica_replay.proofs.ReaderSteps.{reads_none, number_within, IsGetOf, get_of, seat_at, seen_at, hashed_at, homes_at, read_at, reads_seen, read_goes}
 use Rattle.mica_replay.proofs.RoundSteps.{on_err_any}
 use Rattle.mica_replay.proofs.reader.run_reader.Given.{Over}
-use Rattle.mica_replay.proofs.reader.run_reader.Goals.{After-ask_hashed-got, After-bytes-key}
+use Rattle.mica_replay.proofs.reader.run_reader.Goals.{After-ask_hashed-got, After-bytes-key, After-index_mut-seat}
 use Rattle.mica_replay.proofs.reader.run_reader.Goals as goal
 
 get : (g : Over) (c : After-bytes-key g) → IsGetOf c.args.trace.now c.args.gets.now c.loop-number.number-index c.index-lines-number.result
@@ -22,7 +22,7 @@ get g c =
     (c.index-lines-number.is ∙ ap (λ (ls : List TraceLine). get_or ls (get_or numbers c.loop-number.number-index 0) line) c.lines-lines.ensures.same)
 
 -- the seat that is asked
-module _ (g : Over) (c : After-ask_hashed-got g) where
+module _ (g : Over) (c : After-index_mut-seat g) where
   abbrev seat : g.row.R.Denot → ReaderState
   seat s = g.R.ReaderWords.reader s
 
@@ -40,9 +40,11 @@ module _ (g : Over) (c : After-ask_hashed-got g) where
   here = seat_at seat c.args.options.now c.index-lines-number.result gets c.loop-number.found.items (map seat c.args.seats.now.items) c.loop-number.seats.items
       c.partition_of-partition.result c.index_mut-seat.result.now c.requires.valid c.requires.seats c.loop-number.invariant.read at c.index_mut-seat.ensures.value
 
-  homes : map (λ s. g.R.ReaderWords.home s) (slice_set c.loop-number.seats.items c.partition_of-partition.result c.ask_hashed-got.new.seat) ≡ map (λ s. g.R.ReaderWords.home s) c.args.seats.now.items
-  homes = homes_at seat (λ s. g.R.ReaderWords.home s) c.loop-number.seats.items c.partition_of-partition.result c.index_mut-seat.result.now c.ask_hashed-got.new.seat _
-      c.loop-number.invariant.homes here c.ask_hashed-got.ensures.home
+homes : (g : Over) (c : After-ask_hashed-got g) → slice_get c.loop-number.seats.items c.partition_of-partition.result ≡ Some c.index_mut-seat.result.now
+    → map (λ s. g.R.ReaderWords.home s) (slice_set c.loop-number.seats.items c.partition_of-partition.result c.ask_hashed-got.new.seat) ≡ map (λ s. g.R.ReaderWords.home s) c.args.seats.now.items
+homes g c here =
+    homes_at (λ s. g.R.ReaderWords.reader s) (λ s. g.R.ReaderWords.home s) c.loop-number.seats.items c.partition_of-partition.result c.index_mut-seat.result.now c.ask_hashed-got.new.seat _
+    c.loop-number.invariant.homes here c.ask_hashed-got.ensures.home
 
 pub loop-number-init : goal.loop-number-init
 loop-number-init g c =
@@ -65,9 +67,16 @@ pub ask_hashed-got-requires-clause-key : goal.ask_hashed-got-requires-clause-key
 ask_hashed-got-requires-clause-key g c =
     subst KeyFits (sym (c.bytes-key.ensures ∙ ap (λ (l : TraceLine). l.key) (sym c.index-lines-number.is))) (get g (goal.at.ask_hashed-got-requires-clause-key g c).After-bytes-key).key
 
+pub ask_hashed-got-requires-clause-hashed : goal.ask_hashed-got-requires-clause-hashed
+ask_hashed-got-requires-clause-hashed g c =
+    let z = (goal.at.ask_hashed-got-requires-clause-hashed g c).After-index_mut-seat in
+    c.key_hash-hash.ensures
+    ∙ hashed_at (seat g z) c.args.options.now (gets g z) c.loop-number.found.items (map (seat g z) c.args.seats.now.items) c.loop-number.seats.items c.partition_of-partition.result c.index_mut-seat.result.now
+    c.bytes-key.result.now c.requires.seats c.loop-number.invariant.read (here g z)
+
 pub returns-in_err-line_of-clause-seen : goal.returns-in_err-line_of-clause-seen
 returns-in_err-line_of-clause-seen g c =
-    let z = (goal.at.returns-in_err-line_of-clause-seen g c).After-ask_hashed-got in
+    let z = (goal.at.returns-in_err-line_of-clause-seen g c).After-index_mut-seat in
     let f = seat g z in
     let olds = map f c.args.seats.now.items in
     let items = c.loop-number.seats.items in
@@ -78,18 +87,19 @@ returns-in_err-line_of-clause-seen g c =
     (read_goes (f old) (f new) c.bytes-key.result.now c.ask_hashed-got.result c.ask_hashed-got.new.out c.ask_hashed-got.ensures.answered))
 
 pub returns-in_err-line_of-clause-homes : goal.returns-in_err-line_of-clause-homes
-returns-in_err-line_of-clause-homes g c = homes g (goal.at.returns-in_err-line_of-clause-homes g c).After-ask_hashed-got
+returns-in_err-line_of-clause-homes g c = let z = goal.at.returns-in_err-line_of-clause-homes g c in homes g z.After-ask_hashed-got (here g z.After-index_mut-seat)
 
 pub loop-number-preserved : goal.loop-number-preserved
 loop-number-preserved g c =
-    let z = (goal.at.loop-number-preserved g c).After-ask_hashed-got in
-    let of = get g (goal.at.loop-number-preserved g c).After-bytes-key in
+    let at_end = goal.at.loop-number-preserved g c in
+    let z = at_end.After-index_mut-seat in
+    let of = get g at_end.After-bytes-key in
     let found = c.loop-number.found.items in
     record {
       read = rw (of.more, c.push_reserved.ensures.items, c.in_ok-line_of.ensures)
           (read_at (seat g z) c.args.options.now (gets g z) found (map (seat g z) c.args.seats.now.items) c.loop-number.seats.items c.partition_of-partition.result c.index_mut-seat.result.now c.ask_hashed-got.new.seat _
           c.bytes-key.result.now c.ask_hashed-got.result c.ask_hashed-got.new.out c.requires.seats c.loop-number.invariant.read (at g z) (here g z) of.get (same_key g z) c.ask_hashed-got.ensures.answered);
-      homes = homes g z;
+      homes = homes g at_end.After-ask_hashed-got (here g z);
       room = omega (arith, c.loop-number.invariant.room, c.push_reserved.ensures.capacity);
       found = ap length c.push_reserved.ensures.items ∙ length_push found c.in_ok-line_of.field-0 ∙ ap (λ n. n + 1) c.loop-number.invariant.found;
       call = ap (λ n. n + 1) c.loop-number.invariant.call;
