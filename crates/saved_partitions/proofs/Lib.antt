@@ -1,4 +1,4 @@
-pub mod Once
+pub mod Settled
 pub mod Loads
 pub mod Short
 pub mod Asked

@@ -1,10 +1,8 @@
 //! What is saved so far, and where.
-ghost use Rattle.std.specs.Prelude.{◌<◌, ⊤};
-ghost use Rattle.std.specs.Bool.{MatchBool};
-ghost use Rattle.named_files.specs.Files.{Told, IsSettled};
-ghost use Rattle.saved_items.specs.Items.{HeadFits};
+ghost use Rattle.std.specs.Prelude.{◌≡◌, ◌<◌, ◌≤◌, false};
+ghost use Rattle.saved_items.specs.declared.items.TheConstants.{MAX_PARTITIONS};
 ghost use Rattle.saved_items.specs.Spiller.{IsFresh};
-ghost use Rattle.saved_partitions.proofs.Once.{fresh_once, head_once, settled_once};
+ghost use Rattle.saved_partitions.specs.State.{IsHashedBelow, IsSettledAt};
 
 use named_files::Place;
 use saved_items::{Head, SavedPair, SpillFault, Spiller};
@@ -27,8 +25,10 @@ pub struct Progress {
     pub(crate) is_begun: bool,
     /// What it came to.
     pub(crate) came: Result<(), SpillFault>,
-    ghost fresh: { MatchBool is_begun ⊤ (IsFresh spiller) } by { fresh_once is_begun spiller },
-    ghost fits: { HeadFits head } by { head_once head },
+    ghost fresh: { is_begun ≡ false → IsFresh spiller },
+    ghost hashed: { IsHashedBelow head.hashing },
+    ghost some: { 1 ≤ head.partitions },
+    ghost few: { head.partitions ≤ MAX_PARTITIONS },
     ghost numbers: { 0 < base },
 }
 
@@ -37,5 +37,5 @@ pub struct Progress {
 pub struct Saving<P: Place> {
     pub place: P,
     pub progress: Progress,
-    ghost settled: { Told (P.state place) IsSettled } by { settled_once (P.state place) },
+    ghost settled: { IsSettledAt (P.state place) },
 }

@@ -2,13 +2,15 @@
 ghost use Rattle.std.specs.Prelude.{◌≡◌};
 ghost use Rattle.kept_items.specs.Left.{saved_mode};
 ghost use Rattle.saved_partitions.specs.Filling.{saved_hashing};
+ghost use Rattle.saved_partitions.specs.State.{IsHashedBelow};
 
 use mica_words::Hashing as KeyHashing;
 use partition_model::Mode;
 use saved_items::{Hashing, SavedMode};
 
 pub(crate) fn saved_hashing(hashing: KeyHashing) -> Hashing
-    ensures { result ≡ saved_hashing hashing }
+    ensures is { result ≡ saved_hashing hashing }
+    ensures below { IsHashedBelow result }
 {
     match hashing {
         KeyHashing::Fnv1a => Hashing::Papers,
