@@ -23,4 +23,6 @@ untold = record {
   counts = λ counter. 0;
   before = λ counter. 0;
   wear = λ partition. record { writes = 0; writes_left = 0 };
+  many = 0;
+  thread = λ thread. record { counts = λ counter. 0; before = λ counter. 0 };
 }

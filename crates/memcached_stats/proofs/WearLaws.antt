@@ -1,19 +1,14 @@
--- Of one partition after another it is told how far it is worn.
+-- Texts of one after another.
 use Rattle.std.proofs.Common.{◌≡◌, ℕ, zero, suc, ◌+◌, List, ◌++◌, sym, ap, ◌∙◌, append_assoc, arith}
 use Rattle.std.proofs.lemmas.List.{append-nil}
-use Rattle.memcached_requests.specs.declared.request.Style.{Style}
-use Rattle.memcached_stats.specs.declared.figures.Wear.{Wear}
-use Rattle.memcached_stats.specs.Stats.{lines_of, wear_stats, wear_text}
+use Rattle.memcached_stats.specs.Stats.{each_text}
 
-abbrev one : Style → ℕ → (ℕ → Wear) → List ℕ
-one style p wear = lines_of style (wear_stats p (wear p))
-
--- with one partition more
-pub one_more : (style : Style) (first count : ℕ) (wear : ℕ → Wear) → wear_text style first (suc count) wear ≡ wear_text style first count wear ++ one style (first + count) wear
-one_more style first zero wear = append-nil (one style first wear) ∙ ap (λ p. one style p wear) (omega arith)
-one_more style first (suc count) wear =
-    ap (λ text. one style first wear ++ text) (one_more style (suc first) count wear) ∙ sym (append_assoc (one style first wear) (wear_text style (suc first) count wear) (one style (suc first + count) wear))
-    ∙ ap (λ p. (one style first wear ++ wear_text style (suc first) count wear) ++ one style p wear) (omega arith)
+-- with one more
+pub one_more : (one : ℕ → List ℕ) (first count : ℕ) → each_text one first (suc count) ≡ each_text one first count ++ one (first + count)
+one_more one first zero = append-nil (one first) ∙ ap one (omega arith)
+one_more one first (suc count) =
+    ap (λ text. one first ++ text) (one_more one (suc first) count) ∙ sym (append_assoc (one first) (each_text one (suc first) count) (one (suc first + count)))
+    ∙ ap (λ p. (one first ++ each_text one (suc first) count) ++ one p) (omega arith)
 
 -- five texts that were appended one after another
 pub in_turn : (before a b c d e : List ℕ) → before ++ a ++ b ++ c ++ d ++ e ≡ before ++ (a ++ b ++ c ++ d ++ e)

@@ -1,11 +1,12 @@
 -- The numbers that are told, where they were added up.
-use Rattle.std.specs.Prelude.{ℕ, ◌-◌, List, min, slice_get, unwrap_or}
+use Rattle.std.specs.Prelude.{ℕ, ◌-◌, List, length, min, replicate, slice_get, unwrap_or}
 use Rattle.memcached_stats.specs.declared.counter.Counter.{Counter}
 use Rattle.memcached_stats.specs.declared.counter.Counter.TheVariants.{Sets, CasHits, CasMisses, CasBadval, GetHits, GetMisses, TouchHits, TouchMisses, DeleteHits, DeleteMisses, IncrHits, IncrMisses, DecrHits, DecrMisses, Flushes, StoresTooLarge, StoresRefused, Items, Expired, Flushed, Opened, Closed, Rejected, Lacked, Structures, Yields, Received, Sent}
+use Rattle.memcached_stats.specs.declared.counter.TheConstants.{COUNTERS}
 use Rattle.memcached_stats.specs.declared.figures.Counts.{Counts}
 use Rattle.memcached_stats.specs.declared.figures.Figures.{Figures}
 use Rattle.memcached_stats.specs.declared.figures.Wear.{Wear}
-use Rattle.memcached_stats.specs.Stats.{Told}
+use Rattle.memcached_stats.specs.Stats.{Raised, Told}
 use Rattle.memcached_stats.specs.declared.figures.TheConstants.{MOST_COUNT}
 
 abbrev pub place_of_counter : Counter → ℕ
@@ -52,6 +53,16 @@ since_in counts counter = count_in counts counter - before_in counts counter
 abbrev pub wear_in : List Wear → ℕ → Wear
 wear_in wears partition = unwrap_or (slice_get wears partition) (record { writes = 0; writes_left = 0 })
 
+-- those of a thread
+abbrev pub counts_at : List Counts → ℕ → Counts
+counts_at threads thread = unwrap_or (slice_get threads thread) (record { numbers = replicate COUNTERS 0; before = replicate COUNTERS 0 })
+
+abbrev pub raised_in : Counts → Raised
+raised_in counts = record { counts = count_in counts; before = before_in counts }
+
+abbrev pub raised_at : List Counts → ℕ → Raised
+raised_at threads thread = raised_in (counts_at threads thread)
+
 -- all that is told
 abbrev pub told_of : Figures → Told
 told_of figures = record {
@@ -59,4 +70,6 @@ told_of figures = record {
   counts = count_in figures.counts;
   before = before_in figures.counts;
   wear = wear_in figures.wears;
+  many = length figures.threads.items;
+  thread = raised_at figures.threads.items;
 }

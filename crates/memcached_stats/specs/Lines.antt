@@ -26,3 +26,7 @@ pub record IsShort (line : Line) : Type 0 where
 -- how many bytes it takes at most: 8 bytes stand around name and value in a line, 24 before them in a frame
 abbrev pub most_len : Stat → ℕ
 most_len stat = length stat.name + (24 + MOST_VALUE)
+
+-- and behind another name
+abbrev pub most_len_behind : Stat → ℕ
+most_len_behind stat = MOST_NAME + most_len stat

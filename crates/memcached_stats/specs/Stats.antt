@@ -15,15 +15,23 @@ use Rattle.memcached_requests.specs.FrameReplies.{version_name}
 use Rattle.memcached_requests.specs.Replies.{said_text, stat_text}
 use Rattle.memcached_stats.specs.declared.figures.About.{About}
 use Rattle.memcached_stats.specs.declared.figures.Wear.{Wear}
+use Rattle.memcached_stats.specs.declared.threads.TheConstants.{MOST_THREADS}
 use Rattle.memcached_stats.specs.declared.counter.Counter.{Counter}
 use Rattle.memcached_stats.specs.declared.counter.Counter.TheVariants.{Sets, CasHits, CasMisses, CasBadval, GetHits, GetMisses, TouchHits, TouchMisses, DeleteHits, DeleteMisses, IncrHits, IncrMisses, DecrHits, DecrMisses, Flushes, StoresTooLarge, StoresRefused, Items, Expired, Flushed, Opened, Closed, Rejected, Lacked, Structures, Yields, Received, Sent}
 
--- What was told: of the server; how often each counter was raised, and how often it had been when counts were told to begin anew; and of each partition.
+-- how often each counter of a thread was raised, and how often it had been when counts were told to begin anew
+pub record Raised : Type 0 where
+  pub counts : Counter → ℕ
+  pub before : Counter → ℕ
+
+-- What was told: of the server; how often each counter was raised, and how often it had been when counts were told to begin anew; of each partition; and of each of so many threads.
 pub record Told : Type 0 where
   pub about : About
   pub counts : Counter → ℕ
   pub before : Counter → ℕ
   pub wear : ℕ → Wear
+  pub many : ℕ
+  pub thread : ℕ → Raised
 
 -- how often each counter was raised since counts began anew
 abbrev pub since : Told → Counter → ℕ
@@ -127,10 +135,14 @@ partition_stat partition what number = stat (codes "partition:" ++ decimal parti
 abbrev pub wear_stats : ℕ → Wear → List Stat
 wear_stats partition wear = partition_stat partition (codes ":writes") wear.writes ∷ partition_stat partition (codes ":writes_left") wear.writes_left ∷ []
 
+-- the texts of so many, from this one on
+abbrev pub each_text : (ℕ → List ℕ) → ℕ → ℕ → List ℕ
+each_text one first zero = []
+each_text one first (suc more) = one first ++ each_text one (suc first) more
+
 -- of so many partitions, from this one on
 abbrev pub wear_text : Style → ℕ → ℕ → (ℕ → Wear) → List ℕ
-wear_text style first zero wear = []
-wear_text style first (suc more) wear = lines_of style (wear_stats first (wear first)) ++ wear_text style (suc first) more wear
+wear_text style first many wear = each_text (λ p. lines_of style (wear_stats p (wear p))) first many
 
 -- Of the server, there are at most MOST_PARTITIONS partitions.
 unfoldable pub server_text : Style → ℕ → Told → List ℕ
@@ -187,12 +199,50 @@ slab_stats about = stat (codes "active_slabs") 0 ∷ stat (codes "total_malloced
 abbrev pub size_stats : List Stat
 size_stats = word (codes "sizes_status") (codes "disabled") ∷ []
 
+-- Each thread
+
+-- how often each was raised since counts began anew
+abbrev pub raised_since : Raised → Counter → ℕ
+raised_since raised counter = raised.counts counter - raised.before counter
+
+-- what is told of the connections of a thread
+abbrev pub share_stats : Raised → List Stat
+share_stats raised =
+    stat (codes "curr_connections") (raised.counts Opened - raised.counts Closed)
+    ∷ stat (codes "total_connections") (raised_since raised Opened)
+    ∷ stat (codes "rejected_connections") (raised_since raised Rejected)
+    ∷ stat (codes "connection_structures") (raised.counts Structures)
+    ∷ stat (codes "conn_yields") (raised_since raised Yields)
+    ∷ stat (codes "malloc_fails") (raised_since raised Lacked)
+    ∷ stat (codes "bytes_read") (raised_since raised Received)
+    ∷ stat (codes "bytes_written") (raised_since raised Sent)
+    ∷ []
+
+-- what stands before each name of a thread
+abbrev pub thread_name : ℕ → List ℕ
+thread_name thread = codes "thread:" ++ decimal thread ++ codes ":"
+
+-- the same behind this
+abbrev pub behind : List ℕ → Stat → Stat
+behind name s = record { name = name ++ s.name; value = s.value }
+
+abbrev pub lines_behind : Style → List ℕ → List Stat → List ℕ
+lines_behind style name stats = flat_map (λ s. line_of style (behind name s)) stats
+
+abbrev pub thread_text : Style → ℕ → Raised → List ℕ
+thread_text style thread raised = lines_behind style (thread_name thread) (share_stats raised) ++ lines_behind style (thread_name thread) (command_stats (raised_since raised))
+
+-- of so many threads, from this one on
+abbrev pub threads_text : Style → ℕ → ℕ → (ℕ → Raised) → List ℕ
+threads_text style first many thread = each_text (λ t. thread_text style t (thread t)) first many
+
 -- what is told of a topic: of items and of connections nothing
 abbrev pub topic_text : Style → ℕ → Told → Topic → List ℕ
 topic_text style partitions told topics.Server = server_text style partitions told
 topic_text style partitions told topics.Settings = settings_text style told.about
 topic_text style partitions told topics.Slabs = lines_of style (slab_stats told.about)
 topic_text style partitions told topics.Sizes = lines_of style size_stats
+topic_text style partitions told topics.Threads = threads_text style 0 (min told.many MOST_THREADS) told.thread
 topic_text style partitions told _ = []
 
 -- what is said behind it

@@ -80,15 +80,49 @@ impl Shown {
     }
 }
 
+// What one front shows, and how often each of its counters had been raised when counts were told to begin anew.
+#[derive(Drop)]
+struct Front {
+    shown: Shown,
+    before: Shown,
+}
+
+impl Front {
+    fn new(alloc: Global, partitions: u32) -> Result<Front, NoMemory> {
+        Ok(Front {
+            shown: Shown::new(alloc, partitions)?,
+            before: Shown::new(alloc, 0)?,
+        })
+    }
+
+    fn counts(&self) -> Counts {
+        let mut counts = Counts {
+            numbers: [0; COUNTERS],
+            before: [0; COUNTERS],
+        };
+        for place in 0..COUNTERS {
+            counts.numbers[place] = self.shown.number(place);
+            counts.before[place] = self.before.number(place);
+        }
+        counts
+    }
+
+    // From now on its counts begin anew.
+    fn reset(&self) {
+        for place in 0..COUNTERS {
+            self.before.put(place, self.shown.number(place));
+        }
+    }
+}
+
 /// What a server tells of itself, and where its fronts show what they count.
 #[derive(Drop)]
 pub struct Board {
     server: Server,
     usage: Usage,
     options: Options,
-    fronts: Vec<Shown>,
-    /// How often each counter had been raised when counts were told to begin anew.
-    before: Shown,
+    /// The threads that serve connections, and behind them what fills the partitions.
+    fronts: Vec<Front>,
 }
 
 impl Board {
@@ -101,14 +135,13 @@ impl Board {
     ) -> Result<Board, NoMemory> {
         let mut fronts = Vec::with_capacity(alloc, count as usize)?;
         for _ in 0..count {
-            fronts.push(Shown::new(alloc, options.partitions)?)?;
+            fronts.push(Front::new(alloc, options.partitions)?)?;
         }
         Ok(Board {
             server,
             usage: Usage::new(),
             options: *options,
             fronts,
-            before: Shown::new(alloc, 0)?,
         })
     }
 
@@ -116,8 +149,8 @@ impl Board {
     pub fn show(&self, front: u32, tally: &mut Tally)
         ensures { tally.new ≡ tally.old }
     {
-        if let Some(shown) = self.fronts.get(front as usize) {
-            shown.show(tally);
+        if let Some(front) = self.fronts.get(front as usize) {
+            front.shown.show(tally);
         }
     }
 
@@ -144,16 +177,27 @@ impl Board {
     // Added up over those that count.
     fn counts(&self) -> Counts {
         let mut numbers = [0u64; COUNTERS];
+        let mut before = [0u64; COUNTERS];
         for front in self.fronts.iter() {
-            for (place, number) in numbers.iter_mut().enumerate() {
-                *number = number.saturating_add(front.number(place));
+            let counts = front.counts();
+            for place in 0..COUNTERS {
+                numbers[place] = numbers[place].saturating_add(counts.numbers[place]);
+                before[place] = before[place].saturating_add(counts.before[place]);
             }
         }
-        let mut before = [0u64; COUNTERS];
-        for (place, number) in before.iter_mut().enumerate() {
-            *number = self.before.number(place);
-        }
         Counts { numbers, before }
+    }
+
+    // What each thread counts, where this is asked.
+    fn threads(&self, topic: Topic) -> Result<Vec<Counts>, NoMemory> {
+        let mut threads = Vec::new(*self.fronts.allocator());
+        if matches!(topic, Topic::Threads) {
+            for front in self.fronts.iter() {
+                threads.push(front.counts())?;
+            }
+            threads.pop();
+        }
+        Ok(threads)
     }
 
     /// So much did processors work for the process, in hundredths of a second.
@@ -163,8 +207,8 @@ impl Board {
 
     /// From now on counts begin anew.
     pub fn reset(&self) {
-        for (place, number) in self.counts().numbers.iter().enumerate() {
-            self.before.put(place, *number);
+        for front in self.fronts.iter() {
+            front.reset();
         }
     }
 
@@ -190,8 +234,8 @@ impl Board {
         let place = place_of_partition(partition);
         let (mut writes, mut stamp) = (0, 0);
         for front in self.fronts.iter() {
-            writes = front.number(place).max(writes);
-            stamp = front.number(place + 1).max(stamp);
+            writes = front.shown.number(place).max(writes);
+            stamp = front.shown.number(place + 1).max(stamp);
         }
         Wear {
             writes,
@@ -227,6 +271,7 @@ impl Board {
             about: self.about(second),
             counts: self.counts(),
             wears: self.wears(),
+            threads: self.threads(topic)?,
         };
         put_stats(out, style, partitions, topic, &figures)
     }

@@ -78,9 +78,11 @@ impl Counts {
 }
 
 /// All that is told at a time.
-#[derive(Clone, Copy)]
+#[derive(Drop)]
 pub struct Figures {
     pub about: About,
     pub counts: Counts,
     pub wears: [Wear; MOST_PARTITIONS as usize],
+    /// What each thread counts, where this is asked.
+    pub threads: Vec<Counts>,
 }

@@ -12,6 +12,7 @@ mod lines;
 mod put;
 mod server;
 mod tally;
+mod threads;
 mod topics;
 mod usage;
 

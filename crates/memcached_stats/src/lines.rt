@@ -2,9 +2,11 @@
 ghost use Rattle.std.specs.Prelude.{◌≡◌, ◌≤◌, ◌+◌, ◌*◌, ◌++◌, List, ℕ, OnOk, length, map, sum_by};
 ghost use Rattle.std.specs.List.{All};
 ghost use Rattle.memcached_stats.specs.Figures.{wear_in};
-ghost use Rattle.memcached_stats.specs.Lines.{IsShort, most_len, stat_in};
+ghost use Rattle.memcached_requests.specs.Replies.{stat_text};
+ghost use Rattle.memcached_stats.specs.Lines.{IsShort, IsShortValue, most_len, most_len_behind, stat_in, value_text};
 ghost use Rattle.memcached_stats.specs.declared.lines.TheConstants.{MOST_NAME, MOST_VALUE};
-ghost use Rattle.memcached_stats.specs.Stats.{line_of, lines_of, partition_stat, seconds, stat, wear_stats, wear_text, word};
+ghost use Rattle.memcached_stats.specs.Stats.{behind, line_of, lines_behind, lines_of, partition_stat, seconds, stat, wear_stats, wear_text, word};
+ghost use Rattle.memcached_text.specs.declared.limits.TheConstants.{MAX_KEY_LEN};
 
 use crate::figures::Wear;
 use itoa::Buffer;
@@ -70,7 +72,7 @@ pub(crate) fn told_word(name: &'static [u8], text: &'static [u8]) -> Line
 
 // Appends a name and its number. When out of memory, nothing is appended.
 fn put_number(out: &mut Vec<u8>, style: &Style, name: &[u8], number: u64) -> Result<(), NoMemory>
-    requires name { length name.now ≤ MOST_NAME }
+    requires name { length name.now ≤ MAX_KEY_LEN }
     ensures ok { OnOk result (out.new.items ≡ out.old.items ++ line_of style.now (stat name.now number)) }
     ensures short { OnOk result (length out.new.items ≤ length out.old.items + most_len (stat name.now number)) }
     ensures more { (text : List ℕ) × (out.new.items ≡ out.old.items ++ text) }
@@ -86,7 +88,7 @@ fn put_seconds(
     name: &[u8],
     hundredths: u64,
 ) -> Result<(), NoMemory>
-    requires name { length name.now ≤ MOST_NAME }
+    requires name { length name.now ≤ MAX_KEY_LEN }
     ensures ok { OnOk result (out.new.items ≡ out.old.items ++ line_of style.now (seconds name.now hundredths)) }
     ensures short { OnOk result (length out.new.items ≤ length out.old.items + most_len (seconds name.now hundredths)) }
     ensures more { (text : List ℕ) × (out.new.items ≡ out.old.items ++ text) }
@@ -103,6 +105,26 @@ fn put_seconds(
     put_stat(out, style, name, &text)
 }
 
+// Appends a name and its value. When out of memory, nothing is appended.
+fn put_value(
+    out: &mut Vec<u8>,
+    style: &Style,
+    name: &[u8],
+    value: Value,
+) -> Result<(), NoMemory>
+    requires name { length name.now ≤ MAX_KEY_LEN }
+    requires value { IsShortValue value }
+    ensures ok { OnOk result (out.new.items ≡ out.old.items ++ stat_text style.now name.now (value_text value)) }
+    ensures short { OnOk result (length out.new.items ≤ length out.old.items + (length name.now + (24 + MOST_VALUE))) }
+    ensures more { (text : List ℕ) × (out.new.items ≡ out.old.items ++ text) }
+{
+    match value {
+        Value::Number(number) => put_number(out, style, name, number),
+        Value::Hundredths(hundredths) => put_seconds(out, style, name, hundredths),
+        Value::Word(text) => put_stat(out, style, name, text),
+    }
+}
+
 // Appends a line. When out of memory, nothing is appended.
 fn put_line(out: &mut Vec<u8>, style: &Style, line: &Line) -> Result<(), NoMemory>
     requires { IsShort line.now }
@@ -110,11 +132,26 @@ fn put_line(out: &mut Vec<u8>, style: &Style, line: &Line) -> Result<(), NoMemor
     ensures short { OnOk result (length out.new.items ≤ length out.old.items + most_len (stat_in line.now)) }
     ensures more { (text : List ℕ) × (out.new.items ≡ out.old.items ++ text) }
 {
-    match line.value {
-        Value::Number(number) => put_number(out, style, line.name, number),
-        Value::Hundredths(hundredths) => put_seconds(out, style, line.name, hundredths),
-        Value::Word(text) => put_stat(out, style, line.name, text),
-    }
+    put_value(out, style, line.name, line.value)
+}
+
+// Appends a line behind another name. When out of memory, nothing is appended.
+fn put_line_behind(
+    out: &mut Vec<u8>,
+    style: &Style,
+    name: &[u8],
+    line: &Line,
+) -> Result<(), NoMemory>
+    requires name { length name.now ≤ MOST_NAME }
+    requires line { IsShort line.now }
+    ensures ok { OnOk result (out.new.items ≡ out.old.items ++ line_of style.now (behind name.now (stat_in line.now))) }
+    ensures short { OnOk result (length out.new.items ≤ length out.old.items + most_len_behind (stat_in line.now)) }
+    ensures more { (text : List ℕ) × (out.new.items ≡ out.old.items ++ text) }
+{
+    let mut whole = Vec::new(*out.allocator());
+    whole.extend_from_slice(name)?;
+    whole.extend_from_slice(line.name)?;
+    put_value(out, style, &whole, line.value)
 }
 
 /// Appends lines. When out of memory, some of them may be appended.
@@ -126,6 +163,25 @@ pub(crate) fn put_lines(out: &mut Vec<u8>, style: &Style, lines: &[Line]) -> Res
 {
     for line in lines {
         put_line(out, style, line)?;
+    }
+    Ok(())
+}
+
+/// The same behind another name.
+pub(crate) fn put_lines_behind(
+    out: &mut Vec<u8>,
+    style: &Style,
+    name: &[u8],
+    lines: &[Line],
+) -> Result<(), NoMemory>
+    requires name { length name.now ≤ MOST_NAME }
+    requires short { All IsShort lines.now }
+    ensures ok { OnOk result (out.new.items ≡ out.old.items ++ lines_behind style.now name.now (map stat_in lines.now)) }
+    ensures short { OnOk result (length out.new.items ≤ length out.old.items + sum_by most_len_behind (map stat_in lines.now)) }
+    ensures more { (text : List ℕ) × (out.new.items ≡ out.old.items ++ text) }
+{
+    for line in lines {
+        put_line_behind(out, style, name, line)?;
     }
     Ok(())
 }

@@ -8,6 +8,7 @@ ghost use Rattle.memcached_stats.specs.Stats.{reply_on, server_text, settings_te
 use crate::figures::{About, Figures};
 use crate::lines::{put_lines, put_wears, told_word};
 use crate::server::{command_lines, connection_lines, eviction_lines, process_lines};
+use crate::threads::put_threads;
 use crate::topics::{fixed_lines, slab_lines, start_lines};
 use memcached_commands::Says;
 use memcached_requests::{Style, put_said};
@@ -16,7 +17,7 @@ use outside::NoMemory;
 use partition_model::MOST_PARTITIONS;
 
 /// The most bytes of what is told of a topic.
-const MOST_TEXT: usize = 65_536;
+const MOST_TEXT: usize = 262_144;
 
 // Appends what is told of the server. When out of memory, some of it may be appended.
 #[tactic(auto, unfolding(crate::specs::Stats::server_text))]
@@ -72,6 +73,7 @@ fn put_topic(
         Topic::Settings => put_settings(out, style, about),
         Topic::Slabs => put_lines(out, style, &slab_lines(about)),
         Topic::Sizes => put_lines(out, style, &[told_word(b"sizes_status", b"disabled")]),
+        Topic::Threads => put_threads(out, style, &figures.threads),
         _ => Ok(()),
     }
 }

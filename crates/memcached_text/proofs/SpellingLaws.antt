@@ -22,7 +22,7 @@ use Rattle.memcached_text.specs.declared.command.Side.{Side}
 use Rattle.memcached_text.specs.declared.command.Side.TheVariants.{Front, Back}
 use Rattle.memcached_text.specs.declared.command.Direction.{Direction}
 use Rattle.memcached_text.specs.declared.command.Direction.TheVariants.{Up, Down}
-use Rattle.memcached_text.specs.declared.command.Topic.TheVariants.{Server, Settings, Items, Slabs, Sizes, Conns, Reset}
+use Rattle.memcached_text.specs.declared.command.Topic.TheVariants.{Server, Settings, Items, Slabs, Sizes, Conns, Threads, Reset}
 use Rattle.memcached_text.specs.declared.storage_line.Verb.{Verb}
 use Rattle.memcached_text.specs.declared.storage_line.Verb.TheVariants as verbs
 use Rattle.memcached_text.specs.declared.storage_line.ItemLine.{ItemLine}
@@ -370,6 +370,7 @@ reads_back (Stats Items) more is = whole_reads (codes "stats") (codes "items" �
 reads_back (Stats Slabs) more is = whole_reads (codes "stats") (codes "slabs" ∷ []) more (Stats Slabs) (few _ _ _ refl (plain_key (codes "slabs") refl, tt) (omega arith) refl refl)
 reads_back (Stats Sizes) more is = whole_reads (codes "stats") (codes "sizes" ∷ []) more (Stats Sizes) (few _ _ _ refl (plain_key (codes "sizes") refl, tt) (omega arith) refl refl)
 reads_back (Stats Conns) more is = whole_reads (codes "stats") (codes "conns" ∷ []) more (Stats Conns) (few _ _ _ refl (plain_key (codes "conns") refl, tt) (omega arith) refl refl)
+reads_back (Stats Threads) more is = whole_reads (codes "stats") (codes "threads" ∷ []) more (Stats Threads) (few _ _ _ refl (plain_key (codes "threads") refl, tt) (omega arith) refl refl)
 reads_back (Stats Reset) more is = whole_reads (codes "stats") (codes "reset" ∷ []) more (Stats Reset) (few _ _ _ refl (plain_key (codes "reset") refl, tt) (omega arith) refl refl)
 reads_back Version more is = whole_reads (codes "version") [] more Version (few _ _ _ refl tt (omega arith) refl refl)
 reads_back (Verbosity quiet) more is = whole_reads _ _ more (Verbosity quiet) (verbosity_is_read quiet)

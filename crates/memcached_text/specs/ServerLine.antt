@@ -3,7 +3,7 @@ use Rattle.std.specs.Prelude.{ℕ, Bool, true, false, List, [], ◌∷◌, codes
 use Rattle.memcached_text.specs.declared.fault.Fault.TheVariants.{Format, ExpiryFormat}
 use Rattle.memcached_text.specs.declared.command.Command.TheVariants as commands
 use Rattle.memcached_text.specs.declared.command.Topic.{Topic}
-use Rattle.memcached_text.specs.declared.command.Topic.TheVariants.{Server, Settings, Items, Slabs, Sizes, Conns, Reset}
+use Rattle.memcached_text.specs.declared.command.Topic.TheVariants.{Server, Settings, Items, Slabs, Sizes, Conns, Threads, Reset}
 use Rattle.memcached_text.specs.declared.lifetime.Lifetime.{Lifetime}
 use Rattle.memcached_text.specs.declared.lifetime.Due.TheVariants.{Now}
 use Rattle.memcached_text.specs.declared.line.Line.{Line}
@@ -35,6 +35,7 @@ topic_of word =
     else if bytes_eq word (codes "slabs") then Some Slabs
     else if bytes_eq word (codes "sizes") then Some Sizes
     else if bytes_eq word (codes "conns") then Some Conns
+    else if bytes_eq word (codes "threads") then Some Threads
     else if bytes_eq word (codes "reset") then Some Reset
     else None
 

@@ -15,7 +15,7 @@ use Rattle.memcached_text.specs.declared.command.Side.TheVariants.{Front, Back}
 use Rattle.memcached_text.specs.declared.command.Direction.{Direction}
 use Rattle.memcached_text.specs.declared.command.Direction.TheVariants.{Up, Down}
 use Rattle.memcached_text.specs.declared.command.Topic.{Topic}
-use Rattle.memcached_text.specs.declared.command.Topic.TheVariants.{Server, Settings, Items, Slabs, Sizes, Conns, Reset}
+use Rattle.memcached_text.specs.declared.command.Topic.TheVariants.{Server, Settings, Items, Slabs, Sizes, Conns, Threads, Reset}
 use Rattle.memcached_text.specs.declared.next.Next.TheVariants as nexts
 use Rattle.memcached_text.specs.Lifetimes.{IsSaid, IsSaidDue}
 use Rattle.memcached_text.specs.Lines.{Lacks}
@@ -90,6 +90,7 @@ topic_words Items = codes "items" ∷ []
 topic_words Slabs = codes "slabs" ∷ []
 topic_words Sizes = codes "sizes" ∷ []
 topic_words Conns = codes "conns" ∷ []
+topic_words Threads = codes "threads" ∷ []
 topic_words Reset = codes "reset" ∷ []
 
 -- the words of a command's line

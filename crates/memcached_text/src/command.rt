@@ -108,6 +108,8 @@ pub enum Topic {
     Sizes,
     /// Its connections.
     Conns,
+    /// Each of its threads.
+    Threads,
     /// Nothing: counts are to begin anew.
     Reset,
 }

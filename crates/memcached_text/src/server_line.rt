@@ -68,6 +68,8 @@ pub fn topic_of(word: &[u8]) -> Option<Topic>
         Some(Topic::Sizes)
     } else if word == b"conns".as_slice() {
         Some(Topic::Conns)
+    } else if word == b"threads".as_slice() {
+        Some(Topic::Threads)
     } else if word == b"reset".as_slice() {
         Some(Topic::Reset)
     } else {

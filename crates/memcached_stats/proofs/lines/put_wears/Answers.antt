@@ -18,6 +18,6 @@ loop-partition-preserved c =
           ∙ append_assoc before so_far (lines_of style (wear_stats p c.wear_at.result))
           ∙ ap (λ text. before ++ text)
           (ap (λ wear. so_far ++ lines_of style (wear_stats p wear)) c.wear_at.ensures ∙ ap (λ n. so_far ++ lines_of style (wear_stats n (wears n))) here
-          ∙ sym (one_more style 0 p wears) ∙ ap (λ n. wear_text style 0 n wears) next);
+          ∙ sym (one_more (λ n. lines_of style (wear_stats n (wears n))) 0 p) ∙ ap (λ n. wear_text style 0 n wears) next);
       short = omega (arith, c.in_ok-put_wear.ensures.short, c.loop-partition.invariant.short);
     }
