@@ -5,7 +5,7 @@ import re
 import subprocess
 
 TOP = pathlib.Path(__file__).resolve().parent.parent
-BESIDE = [TOP / "packaging/README.md", TOP / "bench/README.md", TOP / "bench/wrong_bodies/README.md", TOP / "crates/mica/SPEED.md", TOP / "CHANGES.md", TOP / "SECURITY.md"]
+BESIDE = [TOP / "packaging/README.md", TOP / "bench/README.md", TOP / "bench/alike.md", TOP / "bench/wrong_bodies/README.md", TOP / "crates/mica/SPEED.md", TOP / "crates/mica/FORMATS.md", TOP / "crates/saved_items/FORMAT.md", TOP / "CHANGES.md", TOP / "SECURITY.md"]
 PAGES = [TOP / "README.md", *sorted((TOP / "docs").glob("*.md")), *BESIDE]
 OF_CRATES = sorted((TOP / "crates").glob("*/README.md"))
 

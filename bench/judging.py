@@ -1,4 +1,4 @@
-"""Whether a report is lawful for a trace, by the rules of docs/FORMATS.md, written for itself: it shares nothing with the program.
+"""Whether a report is lawful for a trace, by the rules of crates/mica/FORMATS.md, written for itself: it shares nothing with the program.
 
 It keeps what each key's answer was after each write, so a get's line is looked up at the writes whose stamp it has. A put or add of store mode
 may be refused because no block fits, wherever the rules leave the choice.

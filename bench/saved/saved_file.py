@@ -1,4 +1,4 @@
-"""Files of saved items, written and read as docs/FORMATS.md says, and by nothing else: no code of the tree is used here."""
+"""Files of saved items, written and read as crates/saved_items/FORMAT.md says, and by nothing else: no code of the tree is used here."""
 import struct
 
 BLOCK, CONTENT = 65_536, 65_528

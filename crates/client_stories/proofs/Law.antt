@@ -16,10 +16,11 @@ use Rattle.one_order.specs.Order.{OneOrder}
 use Rattle.one_order.proofs.Ordered.{ordered}
 use Rattle.memcached_page.specs.Shelf.{Shelf, empty}
 use Rattle.memcached_page.specs.Course.{Deed, carried, flushed, went, lost, moved, Done, after, IsDeed, IsCourse}
-use Rattle.memcached_page.specs.Kept.{AtEach, LostForCause, shelf_in}
+use Rattle.memcached_page.specs.Kept.{AtEach, LostForCause, RefusesWhereFull, shelf_in}
 use Rattle.memcached_page.specs.Talk.{Story, TalksThrough, ClosesForCause, SettlesAll, TellsSeconds}
 use Rattle.memcached_page.specs.Page.{is_turned_away, part_of, ServesKeyByKey}
 use Rattle.part_courses.proofs.Courses.{courses}
+use Rattle.full_parts.proofs.Answered.{law as all_refuse}
 use Rattle.client_stories.specs.Stories.{Talked, ServesClientsOfStore}
 use Rattle.client_stories.proofs.Marks.{Mark, for_client}
 use Rattle.client_stories.proofs.Pieces.{part, IsMark, IsAskedDeed}
@@ -144,7 +145,16 @@ module _ (options : Options) (base most in_all lacked : ℕ) (fronts : List (Lis
     counted = λ f low. refl;
   }
 
+  pub refuses : (p : ℕ) → RefusesWhereFull options empty (serves.courses p)
+  unfolding serves
+  refuses p = all_refuse options base p _ is_store small (parts.parts_served options base some fronts orders marks (λ f own at. own_answers f own (slice_get fronts f) refl at) (λ f high. none_beyond f (slice_get fronts f) refl high) (λ f. are_marks f (slice_get fronts f) refl) p)
+
 pub law : ServesClientsOfStore
 law options base most in_all lacked fronts runs before logs is_store some small lawful talked =
     let all = serves options base most in_all lacked fronts runs before logs is_store some small lawful talked in
-    (all, λ p low. none_lost (λ key. 0) options empty empty (all.left p) [] (all.courses p) is_store (all.one_course p low))
+    record {
+      serves = all;
+      class = λ key. 0;
+      keeps = λ p low. none_lost (λ key. 0) options empty empty (all.left p) [] (all.courses p) is_store (all.one_course p low);
+      refused = λ p low. refuses options base most in_all lacked fronts runs before logs is_store some small lawful talked p;
+    }

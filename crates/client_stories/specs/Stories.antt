@@ -17,8 +17,7 @@ use Rattle.connection_loop.specs.Moments.{TalksThrough, IsCaughtUp}
 use Rattle.connection_loop.specs.Turns.{TakesTurns}
 use Rattle.served.specs.Served.{empty_origin, AnswersLawfully}
 use Rattle.memcached_page.specs.Shelf.{empty}
-use Rattle.memcached_page.specs.Kept.{KeepsItems}
-use Rattle.memcached_page.specs.Page.{ServesKeyByKey}
+use Rattle.memcached_page.specs.Page.{ServesAsMemcached}
 
 -- The bytes begin with these, one after another.
 abbrev pub AreFirst : List ℕ → List Next → Type 0
@@ -49,11 +48,10 @@ pub record Talked (options : Options) (base most in_all lacked : ℕ) (answers :
   -- what its clients ask is fit
   pub fit : (c : ℕ) → AsksFit (received_of c after.entries)
 
--- Fronts answered lawfully, from where nothing was stored, and each talked so. Then the clients of a store are served as its page says, and no item is lost. Numbers of values would end at
--- 62 bits, which no server comes to.
+-- Fronts answered lawfully, from where nothing was stored, and each talked so. Then the clients of a store are served as its page says. Numbers of values would end at 62 bits, which no server
+-- comes to.
 abbrev pub ServesClientsOfStore : Type 0
 ServesClientsOfStore = (options : Options) (base most in_all lacked : ℕ) (fronts : List (List Answered)) (runs : ℕ → List Placed) (before logs : ℕ → Log)
     → options.mode ≡ Store → 1 ≤ options.partitions → base + options.wear < 2 ^ 62 → AnswersLawfully options empty_origin fronts runs
     → ((f : ℕ) (own : List Answered) → slice_get fronts f ≡ Some own → Talked options base most in_all lacked own (before f) (logs f))
-    → (serves : ServesKeyByKey options (length fronts) lacked (λ part. empty) before logs)
-    × ((p : ℕ) → p < options.partitions → KeepsItems options (λ key. 0) empty (serves.courses p))
+    → ServesAsMemcached options (length fronts) lacked (λ part. empty) before logs

@@ -35,8 +35,7 @@ use Rattle.daemon.specs.Written.{IsDue, IsWritten, IsTold}
 use Rattle.daemon.specs.Daemon.{DaemonOutside, KeepsUp, FillsAndServes, WritesLast, unbound_text, buffers_of, placed, places_of}
 use Rattle.daemon.proofs.LeftLogs.{left_of}
 use Rattle.memcached_page.specs.Shelf.{empty}
-use Rattle.memcached_page.specs.Kept.{KeepsItems}
-use Rattle.memcached_page.specs.Page.{ServesKeyByKey}
+use Rattle.memcached_page.specs.Page.{ServesAsMemcached}
 use Rattle.client_stories.specs.Stories.{AsksFit, Talked}
 use Rattle.client_stories.proofs.Grammar.{fit_asks}
 use Rattle.client_stories.proofs.Law.{law as of_store}
@@ -169,7 +168,7 @@ module _ (service : Service) (base : ℕ) (old new : DaemonOutside) (waited left
 
     -- what is promised, where the net tells its ports
     abbrev Serves : Type 0
-    Serves = (serves : ServesKeyByKey service.options shares new.lacked (λ part. empty) waited left) × ((p : ℕ) → p < service.options.partitions → KeepsItems service.options (λ key. 0) empty (serves.courses p))
+    Serves = ServesAsMemcached service.options shares new.lacked (λ part. empty) waited left
 
     pub all_serve : 1 ≤ service.options.partitions → service.ports.fronts ≡ 0 → writes ≡ [] → service.options.mode ≡ Store → base + service.options.wear < 2 ^ 62
         → OnPorts (λ ports ports'. Serves) old.ports.net.ports new.ports.net.ports
@@ -181,7 +180,7 @@ module _ (service : Service) (base : ℕ) (old new : DaemonOutside) (waited left
         let lawful : AnswersLawfully service.options empty_origin c.answers s.runs =
         subst (λ (w : (ℕ → History) × List (List Answered)). AnswersLawfully service.options w.0 w.1 s.runs)
         (λ i. ((λ p. origin_of service.options (none i) p), (ap (λ l. c.answers ++ map answered_in l) empty_fronts ∙ append-nil c.answers) i)) s.served.answered in
-        subst (λ n. (serves : ServesKeyByKey service.options n new.lacked (λ part. empty) waited left) × ((p : ℕ) → p < service.options.partitions → KeepsItems service.options (λ key. 0) empty (serves.courses p)))
+        subst (λ n. ServesAsMemcached service.options n new.lacked (λ part. empty) waited left)
         c.are.fronts (of_store service.options base MOST_UNSENT (buffers_of service.streams) new.lacked c.answers s.runs waited left is_store some small lawful talked))
       where
         none_left : (fronts : List (List Dealing)) → length fronts ≡ 0 → fronts ≡ []
@@ -196,10 +195,7 @@ law host words service base before after old new status waited left is no_ports 
     fit f c low = fit_asks (received_of c (left f).entries) (spoken f c low)
 
     by : FillsAndServes service base before after old new status
-        → OnPorts (λ ports ports'.
-        (serves : ServesKeyByKey service.options service.streams.ports.fronts new.lacked (λ part. empty) waited left)
-        × ((p : ℕ) → p < service.options.partitions → KeepsItems service.options (λ key. 0) empty (serves.courses p)))
-        old.ports.net.ports new.ports.net.ports
+        → OnPorts (λ ports ports'. ServesAsMemcached service.options service.streams.ports.fronts new.lacked (λ part. empty) waited left) old.ports.net.ports new.ports.net.ports
     by (inr refused) = absurd (elim refused.0 [
       | inl none ↦ subst IsCarriedOut none.0 carried
       | inr due ↦ none_due before after due.0 due.1 (subst (λ image. IsDue (IsDueOfFile before after image) due.0 due.1) no_image due.2)

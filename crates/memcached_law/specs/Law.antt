@@ -12,8 +12,7 @@ use Rattle.daemon.specs.declared.status.DaemonStatus.TheVariants.{UsedUp, Stoppe
 use Rattle.daemon.specs.Files.{FilesFacts}
 use Rattle.daemon.specs.Daemon.{DaemonOutside, KeepsUp}
 use Rattle.memcached_page.specs.Shelf.{empty}
-use Rattle.memcached_page.specs.Kept.{KeepsItems}
-use Rattle.memcached_page.specs.Page.{ServesKeyByKey}
+use Rattle.memcached_page.specs.Page.{ServesAsMemcached}
 use Rattle.client_stories.specs.Stories.{AreBytes}
 
 -- it was carried out until nothing more was to come, or until it was told to stop
@@ -32,14 +31,11 @@ pub record TellsLogs (shares : ℕ) (old new : ListenFacts) (waited left : ℕ �
   pub left_is : (f : ℕ) → f < shares → after (old.given + f) ≡ Some (left f)
 
 -- Words give a store that serves connections alone, and that no image fills; they give it a part at least. Its contract holds, with one of these statuses. What its clients send are bytes. Then they
--- are served key by key, and none of its items is lost. Numbers of values would end at 62 bits.
+-- are served as its page says. Numbers of values would end at 62 bits.
 abbrev pub MemcachedInStore : Type 0
 MemcachedInStore = (host : Host) (words : List (List ℕ)) (service : Service) (base : ℕ) (before after : FilesFacts) (old new : DaemonOutside) (status : DaemonStatus) (waited left : ℕ → Log)
     → daemon_of host words ≡ Some service → service.ports.fronts ≡ 0 → service.image ≡ None → service.options.mode ≡ Store → 1 ≤ service.options.partitions → base + service.options.wear < 2 ^ 62
     → KeepsUp (daemon_of host words) base before after old new status → IsCarriedOut status
     → TellsLogs service.streams.ports.fronts old.ports.listens new.ports.listens waited left
     → ((f c : ℕ) → f < service.streams.ports.fronts → AreBytes (received_of c (left f).entries))
-    → OnPorts (λ ports ports'.
-    (serves : ServesKeyByKey service.options service.streams.ports.fronts new.lacked (λ part. empty) waited left)
-    × ((p : ℕ) → p < service.options.partitions → KeepsItems service.options (λ key. 0) empty (serves.courses p)))
-    old.ports.net.ports new.ports.net.ports
+    → OnPorts (λ ports ports'. ServesAsMemcached service.options service.streams.ports.fronts new.lacked (λ part. empty) waited left) old.ports.net.ports new.ports.net.ports

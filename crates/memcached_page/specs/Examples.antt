@@ -79,6 +79,10 @@ going = for 0 (sets 1 (codes "n") (codes "5")) ∷ itself (went 100 (codes "n"))
 abbrev pub losing : List Done
 losing = for 0 (sets 1 (codes "n") (codes "5")) ∷ itself (lost (codes "n")) ∷ []
 
+-- it is set, got, and lost
+abbrev pub losing_read : List Done
+losing_read = for 0 (sets 1 (codes "n") (codes "5")) ∷ for 0 (shows 2 (codes "n") (item 1 (codes "5"))) ∷ itself (lost (codes "n")) ∷ []
+
 -- it is lost once two others were set behind it, each of which takes six words, as it does
 abbrev pub losing_old : List Done
 losing_old =
@@ -91,6 +95,24 @@ losing_old =
 -- a store is refused with nothing there
 abbrev pub refusing : List Done
 refusing = for 0 (carried 100 1 (asked (Store Whatever 0 Forever (codes "5")) (codes "n")) (Line NoRoom)) ∷ []
+
+-- it is set, and a set of a value that is no longer is refused
+abbrev pub refusing_as_long : List Done
+refusing_as_long =
+    for 0 (sets 1 (codes "n") (codes "5"))
+    ∷ for 0 (carried 100 2 (asked (Store Whatever 0 Forever (codes "6")) (codes "n")) (Line NoRoom))
+    ∷ []
+
+-- it is set, and a delete of it is refused
+abbrev pub refusing_delete : List Done
+refusing_delete = for 0 (sets 1 (codes "n") (codes "5")) ∷ for 0 (carried 100 2 (asked (Delete None) (codes "n")) (Line NoRoom)) ∷ []
+
+-- it is set, and a set of another key is refused
+abbrev pub refusing_other : List Done
+refusing_other =
+    for 0 (sets 1 (codes "n") (codes "5"))
+    ∷ for 0 (carried 100 2 (asked (Store Whatever 0 Forever (codes "5")) (codes "o")) (Line NoRoom))
+    ∷ []
 
 -- one part, whose log or heap has so many words
 abbrev pub options : Mode → ℕ → Options

@@ -8,7 +8,7 @@ ghost use Rattle.memcached_page.specs.Shelf.{Shelf, empty};
 ghost use Rattle.memcached_page.specs.Course.{carried, IsCourse};
 ghost use Rattle.memcached_page.specs.Kept.{KeepsItems, RefusesWhereFull, shelf_in};
 ghost use Rattle.memcached_page.specs.Talk.{Talks, done_for};
-ghost use Rattle.memcached_page.specs.Examples.{counting, going, losing, losing_old, options, refusing, shown_behind_delete, shown_behind_refusal, shown_stale};
+ghost use Rattle.memcached_page.specs.Examples.{counting, going, losing, losing_old, losing_read, options, refusing, refusing_as_long, refusing_delete, refusing_other, shown_behind_delete, shown_behind_refusal, shown_stale};
 
 use partition_model::Mode;
 
@@ -40,15 +40,19 @@ pub fn store_keeps()
     ensures none { (left : Shelf) → IsCourse Mode.Store empty losing left → ⊥ }
 {}
 
-/// A cache loses none at once, whichever keys may take each other's place. It may lose one once the log was written round behind it.
+/// A cache loses none at once, whichever keys may take each other's place, and none for gets. It may lose one once the log was written round behind it.
 pub fn cache_keeps()
     ensures at_once { (class : List ℕ → ℕ) → KeepsItems (options Mode.Cache 256) class empty losing → ⊥ }
+    ensures for_gets { (class : List ℕ → ℕ) → KeepsItems (options Mode.Cache 6) class empty losing_read → ⊥ }
     ensures round { (class : List ℕ → ℕ) → KeepsItems (options Mode.Cache 12) class empty losing_old }
 {}
 
-/// Nothing is refused for want of room where nothing is stored.
+/// A store refuses nothing for want of room where nothing is stored; nor a value that is no longer than the old one, nor a delete, though all its words are taken. It may refuse another key then.
 pub fn refuses_where_full()
-    ensures { RefusesWhereFull (options Mode.Store 256) empty refusing → ⊥ }
+    ensures at_once { RefusesWhereFull (options Mode.Store 256) empty refusing → ⊥ }
+    ensures as_long { RefusesWhereFull (options Mode.Store 6) empty refusing_as_long → ⊥ }
+    ensures delete { RefusesWhereFull (options Mode.Store 6) empty refusing_delete → ⊥ }
+    ensures other { RefusesWhereFull (options Mode.Store 6) empty refusing_other }
 {}
 
 /// A client is not sent what is due to another.

@@ -5,6 +5,8 @@
 #[cfg(test)]
 mod clock;
 #[cfg(test)]
+mod doors;
+#[cfg(test)]
 mod hall;
 #[cfg(test)]
 mod link;

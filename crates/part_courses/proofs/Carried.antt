@@ -1,5 +1,5 @@
 -- What the answer to a command does to the shelf of a store's part.
-use Rattle.std.proofs.Common.{◌≡◌, ◌≢◌, ◌≤◌, ◌<◌, ◌^◌, ◌&&◌, inl, inr, not, ℕ, Bool, true, false, cond, List, [], ◌∷◌, ◌++◌, length, Option, Some, None, is_some, option_map, bytes_eq, refl, sym, ap, subst, ◌∙◌, append-nil, arith}
+use Rattle.std.proofs.Common.{◌≡◌, ◌≢◌, ◌≤◌, ◌<◌, ◌^◌, ◌&&◌, ◌⊎◌, inl, inr, not, ℕ, Bool, true, false, cond, List, [], ◌∷◌, ◌++◌, length, Option, Some, None, is_some, option_map, bytes_eq, refl, sym, ap, subst, ◌∙◌, append-nil, arith}
 use Rattle.std.specs.Prelude.{IfSome}
 use Rattle.std.specs.List.{cons_option}
 use Rattle.std.proofs.lemmas.Bool.{true≢false}
@@ -34,6 +34,7 @@ use Rattle.memcached_decisions.specs.Numbered.{numbered, moment_at, value_in, st
 use Rattle.command_answers.specs.AskAnswers.{AnswersAsk}
 use Rattle.memcached_page.specs.Shelf.{Shelf, at, there, with_item, becomes_of}
 use Rattle.memcached_page.specs.Course.{carried, went, decided, becoming, after, IsDeed}
+use Rattle.memcached_page.specs.Kept.{words_in}
 use Rattle.part_courses.specs.Courses.{is_dead}
 use Rattle.part_courses.proofs.Values.{put_is, del_is}
 use Rattle.part_courses.proofs.Refusals.{has_room}
@@ -92,16 +93,16 @@ module _ {options : Options} {base : ℕ} {h : History} {shelf : Shelf} (g : Beg
     kept_item item is = subst BecomesKept is (fits moment asked.ask found low fit.1 found_fits)
 
     -- the shelf before it is carried out, where a dead item has gone or not
-    record Now (now : Shelf) : Type 0 where
+    pub record Now (now : Shelf) : Type 0 where
       pub flushes : now.flushes ≡ shelf.flushes
       pub free : now.free ≡ shelf.free
       pub others : (k : List ℕ) → k ≢ key → now.items k ≡ shelf.items k
       pub found_is : there moment (now.items key) ≡ found
 
-    now_itself : Now shelf
+    pub now_itself : Now shelf
     now_itself = record { flushes = refl; free = refl; others = λ k differ. refl; found_is = found_there }
 
-    now_without : found ≡ None → Now (with_item key None shelf)
+    pub now_without : found ≡ None → Now (with_item key None shelf)
     now_without none = record {
       flushes = refl;
       free = refl;
@@ -247,6 +248,35 @@ module _ {options : Options} {base : ℕ} {h : History} {shelf : Shelf} (g : Beg
       steps = ((free_below shelf now_itself, inr (refl, wrote_no_get write is)), tt);
       stands_then = subst (Stands options base h) (sym refused_leaves) g.stands;
     }
+
+    -- how many words are written of it
+
+    gone_words : becoming_of moment asked.ask (value_in look.value) ≡ goes → words_in key becoming_is ≡ 0
+    gone_words is = elim (goes_so (only_gets asked.ask) (value_in look.value) found becoming_is is) [
+      | inl same ↦ ap (words_in key) same
+      | inr dead ↦ ap (words_in key) dead.0
+    ]
+
+    pub no_words : (now : Shelf) → Now now → write_for key look.value (stored_becoming (becoming_of moment asked.ask (value_in look.value))) ≡ None → words_in key (becoming second number asked now) ≡ 0
+    no_words now is_now none = ap (words_in key) (becoming_same now is_now) ∙ elim (unwritten (becoming_of moment asked.ask (value_in look.value)) key look.value none) [
+      | inl stay ↦ ap (words_in key) (stays_so (only_gets asked.ask) (value_in look.value) found becoming_is stay)
+      | inr go ↦ gone_words go.0
+    ]
+
+    -- a value is put, or a delete leaves none, which was decided where it was not dead
+    pub words_of_write : (now : Shelf) → Now now → (write : Write) → write_for key look.value (stored_becoming (becoming_of moment asked.ask (value_in look.value))) ≡ Some write
+        → ((item : Item) × (becoming second number asked now ≡ becomes item) × (write ≡ write_of Put key (item_text item)))
+        ⊎ ((words_in key (becoming second number asked now) ≡ 0) × (write ≡ write_of Del key []) × (is_dead base look ≡ false → becoming second number asked now ≡ goes))
+    words_of_write now is_now write is = elim (written (becoming_of moment asked.ask (value_in look.value)) key look.value write is) [
+      | inl put ↦ inl (put.0, becoming_same now is_now ∙ becomes_so (only_gets asked.ask) (value_in look.value) found becoming_is put.0 put.1, put.2)
+      | inr del ↦ inr (ap (words_in key) (becoming_same now is_now) ∙ gone_words del.0, del.1, λ alive. becoming_same now is_now ∙ decided_so del.0 alive)
+    ]
+      where
+        decided_so : becoming_of moment asked.ask (value_in look.value) ≡ goes → is_dead base look ≡ false → becoming_is ≡ goes
+        decided_so go alive = elim (goes_so (only_gets asked.ask) (value_in look.value) found becoming_is go) [
+          | inl same ↦ same
+          | inr dead ↦ absurd (true≢false (sym dead.1 ∙ ap (λ o. is_some o && not (is_some found)) value_is ∙ alive))
+        ]
 
     -- so in each case
 

@@ -33,11 +33,11 @@ own_key key None goes write is = absurd (cc)
 own_key key (Some stored) goes write is = cc
 
 -- no client's key is as long as a mark
-no_mark : (key : List ℕ) → IsFitKey key → is_mark key ≡ false
+pub no_mark : (key : List ℕ) → IsFitKey key → is_mark key ≡ false
 no_mark key fit = ne_eqb (length key) 255 (λ same. omega (arith, same, fit))
 
 module _ {options : Options} {base : ℕ} (part : ℕ) {h : History} {shelf : Shelf} (g : Begun options base h shelf) where
-  one : (purpose : Purpose) (answered : Answered) → IsAnswerBehind options h answered → IsFor options base part purpose answered
+  pub one : (purpose : Purpose) (answered : Answered) → IsAnswerBehind options h answered → IsFor options base part purpose answered
       → One options base shelf (behind h answered) (deeds_of base part (length h) purpose answered)
   one (asks asked) (wrote step) answer for = absurd (for.1)
   one (asks asked) (got key stamp value) answer for = absurd (for.1)

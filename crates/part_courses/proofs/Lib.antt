@@ -1,8 +1,8 @@
-mod Values
+pub mod Values
 pub mod Refusals
-mod Shelves
+pub mod Shelves
 pub mod Written
-mod Steps
-mod Carried
+pub mod Steps
+pub mod Carried
 mod Flushed
 pub mod Courses

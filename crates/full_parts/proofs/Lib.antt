@@ -1,0 +1,5 @@
+pub mod Answered
+mod Refused
+mod Rooms
+mod Roomy
+mod Sums
