@@ -5,8 +5,6 @@
 #[cfg(test)]
 mod clock;
 #[cfg(test)]
-mod doors;
-#[cfg(test)]
 mod hall;
 #[cfg(test)]
 mod link;
